@@ -1,0 +1,29 @@
+-- The elements within an element, as the walk meets them.
+use mathlib.Core.List.{List, [], _∷_, _++_}
+use mathlib.Core.Bool.{cond}
+use Prim.Native.Nat.{ℕ, zero, suc}
+use Rattle.der.specs.Header.{childrenOf}
+use Rattle.der.specs.Contents.{constructed}
+use Rattle.der.specs.declared.header.Head.{Head}
+
+-- "In a constructed one, an element holds a list of elements"
+abbrev pub heldBy : List ℕ → Head → List Head
+heldBy s h = cond (constructed (h .tag)) (childrenOf s (h .body) (h .end)) []
+
+-- an element as the walk meets it, and the levels that are left for it: one with none left is too deep
+pub record Node : Type 0 where
+  pub head : Head
+  pub levels : ℕ
+
+abbrev pub joined : (Head → List Node) → List Head → List Node
+joined f [] = []
+joined f (h ∷ hs) = f h ++ joined f hs
+
+-- "Walk by rising start, outer before inner": an element, and then what each member of its list gives
+unfoldable pub elementsOf : List ℕ → ℕ → Head → List Node
+elementsOf s zero h = record { head = h; levels = zero } ∷ []
+elementsOf s (suc levels) h = record { head = h; levels = suc levels } ∷ joined (elementsOf s levels) (heldBy s h)
+
+-- the members of a list and all that they hold
+abbrev pub membersOf : List ℕ → ℕ → ℕ → ℕ → List Node
+membersOf s levels at end = joined (elementsOf s levels) (childrenOf s at end)

@@ -1,0 +1,8 @@
+-- The definitions that the contracts cite, from X.690 and document 01's "Sound DER". Read them in this order.
+pub mod Header
+pub mod Contents
+pub mod Integers
+pub mod Order
+pub mod Elements
+pub mod Soundness
+pub mod Walking

@@ -1,0 +1,89 @@
+-- Refusals 4 and 5: "not sound DER", at the first faulty element; "a SET out of order", at the first such SET.
+use mathlib.Core.List.{List, [], _∷_, map}
+use mathlib.Core.Bool.{Bool, true, false, cond, not, _&&_, _||_}
+use Prim.Native.Nat.{ℕ}
+use lib.ListN.{length}
+use lib.Dec.{eqb}
+use Rattle.der.specs.Header.{headOf, childrenOf}
+use Rattle.der.specs.Contents.{elementOk}
+use Rattle.der.specs.Order.{ascending, octetsOf}
+use Rattle.der.specs.Elements.{Node, heldBy, elementsOf, membersOf}
+use Rattle.der.specs.declared.header.Head.{Head}
+use Rattle.der.specs.declared.walk.Soundness.{Soundness}
+use Rattle.der.specs.declared.walk.Soundness.the-variants.{Sound, Unsound, Unordered}
+
+-- "its depth is over 16", its header is not sound, "or its universal type is broken"
+abbrev pub faulty : List ℕ → Node → Bool
+faulty s n = eqb (n .levels) 0 || not (elementOk s (n .head))
+
+-- SET, 31 hex
+abbrev pub isSet : Head → Bool
+isSet h = eqb (h .tag) 49
+
+-- a SET whose members do not ascend
+abbrev pub unordered : List ℕ → Node → Bool
+unordered s n = isSet (n .head) && not (ascending (map (octetsOf s) (heldBy s (n .head))))
+
+-- the start of the first element that a test picks
+pub data Found : Type 0 where
+  nothing : Found
+  found : ℕ → Found
+
+unfoldable pub first : (Node → Bool) → List Node → Found
+first p [] = nothing
+first p (n ∷ ns) = cond (p n) (found (n .head .at)) (first p ns)
+
+-- a faulty element counts before a SET out of order, wherever the two stand
+abbrev pub judge : Found → Found → Soundness
+judge (found p) set = Unsound p
+judge nothing (found p) = Unordered p
+judge nothing nothing = Sound
+
+unfoldable pub soundness : List ℕ → List Node → Soundness
+soundness s ns = judge (first (faulty s) ns) (first (unordered s) ns)
+
+-- "One outermost element fills the bytes" from place at to end (else it is faulty, at its start), and depths count from 1 to 16.
+unfoldable pub stretchSoundness : List ℕ → ℕ → ℕ → Soundness
+stretchSoundness s at end =
+    cond (eqb (headOf s at end .end) end) (soundness s (elementsOf s 16 (headOf s at end))) (Unsound at)
+
+-- the whole of a side
+abbrev pub derSoundness : List ℕ → Soundness
+derSoundness s = stretchSoundness s 0 (length s)
+
+-- The paper's number and place for each case. (0 is no refusal.)
+abbrev pub refusalNumber : Soundness → ℕ
+refusalNumber Sound = 0
+refusalNumber (Unsound p) = 4
+refusalNumber (Unordered p) = 5
+
+abbrev pub refusalPlace : Soundness → ℕ
+refusalPlace Sound = 0
+refusalPlace (Unsound p) = p
+refusalPlace (Unordered p) = p
+
+-- ---- how the walk puts its answer together
+
+abbrev pub isSound : Soundness → Bool
+isSound Sound = true
+isSound (Unsound p) = false
+isSound (Unordered p) = false
+
+-- what two lists of elements give, one behind the other
+abbrev pub andThen : Soundness → Soundness → Soundness
+andThen Sound b = b
+andThen (Unsound p) b = Unsound p
+andThen (Unordered p) Sound = Unordered p
+andThen (Unordered p) (Unsound q) = Unsound q
+andThen (Unordered p) (Unordered q) = Unordered p
+
+-- what the order of its members says of the element at place at
+abbrev pub inOrder : Bool → ℕ → Soundness
+inOrder true at = Sound
+inOrder false at = Unordered at
+
+-- the list from body to end that an element at place at holds: its order, if the element is a SET, and then its members
+abbrev pub soundList : List ℕ → ℕ → ℕ → Bool → ℕ → ℕ → Soundness
+soundList s levels at set body end =
+    andThen (inOrder (not set || ascending (map (octetsOf s) (childrenOf s body end))) at)
+    (soundness s (membersOf s levels body end))

@@ -1,0 +1,18 @@
+// Sound DER: an element's header, the contents of the universal types, the order of a SET's members, and the
+// walk over elements within elements that refusals 4 and 5 rest on.
+mod contents;
+mod header;
+mod order;
+mod walk;
+
+pub use contents::element_ok;
+pub use contents::holds_elements;
+pub use contents::is_constructed;
+pub use contents::primitive_ok;
+pub use header::Head;
+pub use header::head_any;
+pub use header::head_at;
+pub use order::octets_le;
+pub use walk::Soundness;
+pub use walk::check_der;
+pub use walk::check_stretch;

@@ -1,0 +1,16 @@
+-- Every example of the table holds, by computation. Assumes nothing.
+use mathlib.Core.Path.{_≡_, refl}
+use mathlib.Core.List.{map}
+use Rattle.examples.specs.Table.{Example, answer, table}
+use Rattle.octets.specs.Octets.{octetsFrom}
+use Rattle.octets.specs.Numbers.{numberFrom}
+use Rattle.der.specs.Header.{headOf, childrenOf, childrenBy}
+use Rattle.der.specs.Contents.{arcsOk, primitiveOk, elementOk}
+use Rattle.der.specs.Integers.{integerOf}
+use Rattle.der.specs.Order.{octetsLe, ascendFrom}
+use Rattle.der.specs.Elements.{elementsOf}
+use Rattle.der.specs.Soundness.{first, soundness, stretchSoundness}
+
+pub examples : map (λ (e : Example). answer (e .asked)) table ≡ map (λ (e : Example). e .answered) table
+unfolding answer table stretchSoundness soundness first elementsOf elementOk primitiveOk arcsOk ascendFrom octetsLe headOf childrenOf childrenBy octetsFrom numberFrom integerOf
+examples = refl

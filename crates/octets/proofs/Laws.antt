@@ -1,0 +1,6 @@
+-- Laws of the definitions, by file.
+pub mod Tests
+pub mod Octets
+pub mod Numbers
+pub mod Same
+pub mod Places

@@ -1,0 +1,5 @@
+-- Octets by their place, what numbers they say, when two stretches are the same, and places.
+pub mod Octets
+pub mod Numbers
+pub mod Same
+pub mod Places

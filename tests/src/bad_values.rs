@@ -1,0 +1,415 @@
+//! Extension values that are not exactly one sound element of their RFC 5280 type (rules 341 to
+//! 350), and values on the edge that are.
+
+use crate::certificate::{Attribute, Name, RelativeName};
+use crate::element::{tag, Element, LengthForm, Part};
+use crate::general_names::*;
+use crate::object_identifiers as oid;
+
+/// A value and what is said about it.
+pub struct Value {
+    pub what: String,
+    pub parts: Vec<Part>,
+}
+
+fn value(what: &str, element: Element) -> Value {
+    Value { what: what.to_string(), parts: vec![Part::Element(element)] }
+}
+
+fn octets(what: &str, octets: &[u8]) -> Value {
+    Value { what: what.to_string(), parts: vec![Part::Octets(octets.to_vec())] }
+}
+
+fn sequence(members: Vec<Element>) -> Element {
+    Element::sequence(members)
+}
+
+/// Bad values of one extension, one fault each.
+pub fn bad_values(slot: u8) -> Vec<Value> {
+    let mut values = match slot {
+        1 => bad_authority_key_identifiers(),
+        2 => bad_basic_constraints(),
+        3 => bad_subject_key_identifiers(),
+        4 => bad_key_usages(),
+        5 => bad_purposes(),
+        6 => bad_policies(),
+        7 => bad_alternative_names(),
+        8 => bad_accesses(),
+        9 => bad_points(),
+        10 => bad_nochecks(),
+        _ => panic!("the table has no row {slot}"),
+    };
+    values.extend(bad_for_any(slot));
+    values
+}
+
+/// Faults that every type of value can have, made of a good value.
+fn bad_for_any(slot: u8) -> Vec<Value> {
+    let good = crate::correct::plain_value(slot, if slot == 10 { 3 } else { 1 });
+    let whole = good.octets();
+    let mut values = vec![octets("nothing", &[])];
+    values.push(octets("one octet after the element", &[whole.as_slice(), &[0]].concat()));
+    values.push(octets("two elements", &[whole.as_slice(), whole.as_slice()].concat()));
+    values.push(octets("cut by an octet", &whole[..whole.len() - 1]));
+    values.push(octets("the identifier octet alone", &whole[..1]));
+    values.push(value("length in the long form", good.clone().with_length_form(LengthForm::Long(3))));
+    values.push(value("another identifier octet", Element { identifier: tag::context(0), ..good.clone() }));
+    values.push(value("a SET around it", Element::set_of(vec![good.clone()])));
+    if slot != 3 {
+        // The subject key identifier is an OCTET STRING itself, whatever it holds.
+        values.push(value("an OCTET STRING around it", Element::octet_string(&whole)));
+    }
+    values.push(value("a tag number of 31", Element { identifier: good.identifier | 0x1F, ..good.clone() }));
+    if good.identifier == tag::SEQUENCE {
+        values.push(value("indefinite length", good.clone().with_length_form(LengthForm::Indefinite)));
+        let mut more = good.clone();
+        more.push(Element::null());
+        values.push(value("a NULL after the last member", more));
+        values.push(octets("a primitive SEQUENCE", &[&[0x10], &whole[1..]].concat()));
+    }
+    values
+}
+
+fn context(number: u8, contents: &[u8]) -> Element {
+    Element::primitive(tag::context(number), contents)
+}
+
+fn constructed(number: u8, members: Vec<Element>) -> Element {
+    Element::constructed(tag::context_constructed(number), members)
+}
+
+fn bad_authority_key_identifiers() -> Vec<Value> {
+    let key = || context(0, &[1; 20]);
+    vec![
+        value(
+            "key identifier constructed",
+            sequence(vec![constructed(0, vec![Element::octet_string(&[1])])]),
+        ),
+        value("an OCTET STRING without its implicit tag", sequence(vec![Element::octet_string(&[1; 20])])),
+        value("key identifier twice", sequence(vec![key(), key()])),
+        value(
+            "no names in the list of issuers",
+            sequence(vec![key(), constructed(1, vec![]), context(2, &[1])]),
+        ),
+        value("issuers primitive", sequence(vec![key(), context(1, &[])])),
+        value("a bad name among the issuers", sequence(vec![key(), constructed(1, vec![Element::null()])])),
+        value("serial empty", sequence(vec![key(), context(2, &[])])),
+        value("serial not minimal", sequence(vec![key(), context(2, &[0, 0x7F])])),
+        value("serial negative and not minimal", sequence(vec![key(), context(2, &[0xFF, 0x80])])),
+        value("fields out of order", sequence(vec![context(2, &[1]), key()])),
+        value("an unknown field", sequence(vec![key(), context(3, &[])])),
+    ]
+}
+
+fn bad_basic_constraints() -> Vec<Value> {
+    let path = |contents: &[u8]| Element::integer(contents);
+    vec![
+        value("cA FALSE written", sequence(vec![Element::boolean(false)])),
+        value("cA FALSE with a path length", sequence(vec![Element::boolean(false), path(&[0])])),
+        value("cA neither 00 nor FF", sequence(vec![Element::primitive(tag::BOOLEAN, &[1])])),
+        value("path length negative", sequence(vec![Element::boolean(true), path(&[0xFF])])),
+        value("path length of -128 alone", sequence(vec![path(&[0x80])])),
+        value("path length not minimal", sequence(vec![Element::boolean(true), path(&[0, 1])])),
+        value("path length before cA", sequence(vec![path(&[0]), Element::boolean(true)])),
+        value("two path lengths", sequence(vec![path(&[0]), path(&[0])])),
+        value("two cAs", sequence(vec![Element::boolean(true), Element::boolean(true)])),
+        value("path length ENUMERATED", sequence(vec![Element::primitive(tag::ENUMERATED, &[0])])),
+    ]
+}
+
+fn bad_subject_key_identifiers() -> Vec<Value> {
+    vec![
+        octets("twenty octets without a header", &[7; 20]),
+        octets("a constructed OCTET STRING", &[0x24, 3, 4, 1, 7]),
+        value("a BIT STRING", Element::bit_string(0, &[7; 20])),
+        value("a SEQUENCE of it", sequence(vec![Element::octet_string(&[7; 20])])),
+    ]
+}
+
+fn bad_key_usages() -> Vec<Value> {
+    vec![
+        value("trailing zero bits", Element::bit_string(0, &[0x80])),
+        value("all bits clear in one octet", Element::bit_string(7, &[0])),
+        value("all bits clear in an octet without unused bits", Element::bit_string(0, &[0])),
+        value("a trailing zero octet", Element::bit_string(0, &[0x80, 0])),
+        value("one zero bit too many", Element::bit_string(4, &[0xA0])),
+        value("unused bits that are set", Element::primitive(tag::BIT_STRING, &[7, 0xC0])),
+        value("eight unused bits", Element::primitive(tag::BIT_STRING, &[8, 0x80])),
+        value("unused bits of nothing", Element::primitive(tag::BIT_STRING, &[1])),
+        value("no octet at all", Element::primitive(tag::BIT_STRING, &[])),
+        octets("a constructed BIT STRING", &[0x23, 4, 3, 2, 7, 0x80]),
+        value("an INTEGER", Element::integer(&[1])),
+    ]
+}
+
+fn bad_purposes() -> Vec<Value> {
+    let purpose = || Element::object_identifier(&oid::server_auth());
+    vec![
+        value("no purpose", sequence(vec![])),
+        value("an empty purpose", sequence(vec![purpose(), Element::object_identifier(&[])])),
+        value("an unfinished arc", sequence(vec![purpose(), Element::object_identifier(&[0x2B, 0x86])])),
+        value("an arc starting 80", sequence(vec![purpose(), Element::object_identifier(&[0x2B, 0x80, 1])])),
+        value("first arc starting 80", sequence(vec![purpose(), Element::object_identifier(&[0x80, 1])])),
+        value("a text for a purpose", sequence(vec![purpose(), Element::utf8("serverAuth")])),
+        value("a list in the list", sequence(vec![sequence(vec![purpose()])])),
+    ]
+}
+
+fn bad_policies() -> Vec<Value> {
+    let identifier = || Element::object_identifier(&oid::federal_policy());
+    let good = || policy(oid::domain_validated(), vec![]);
+    let with = |qualifiers: Element| sequence(vec![good(), sequence(vec![identifier(), qualifiers])]);
+    let statement = || qualifier(oid::practice_statement(), Element::primitive(tag::IA5_STRING, b"http://a"));
+    vec![
+        value("no policy", sequence(vec![])),
+        value("a policy without identifier", sequence(vec![good(), sequence(vec![])])),
+        value("a bare identifier for a policy", sequence(vec![identifier()])),
+        value("no qualifier in the list", with(sequence(vec![]))),
+        value("qualifiers in a SET", with(Element::set_of(vec![statement()]))),
+        value("a qualifier without contents", with(sequence(vec![sequence(vec![identifier()])]))),
+        value("a qualifier without identifier", with(sequence(vec![sequence(vec![Element::null()])]))),
+        value("an empty qualifier", with(sequence(vec![sequence(vec![])]))),
+        value(
+            "a qualifier with three members",
+            with(sequence(vec![sequence(vec![identifier(), Element::null(), Element::null()])])),
+        ),
+        value(
+            "two lists of qualifiers",
+            sequence(vec![sequence(vec![
+                identifier(),
+                sequence(vec![statement()]),
+                sequence(vec![statement()]),
+            ])]),
+        ),
+        value(
+            "unsound contents of a qualifier",
+            with(sequence(vec![qualifier(oid::user_notice(), bad_boolean())])),
+        ),
+        value(
+            "a SET out of order in a qualifier",
+            with(sequence(vec![qualifier(oid::user_notice(), bad_set())])),
+        ),
+    ]
+}
+
+fn bad_boolean() -> Element {
+    Element::primitive(tag::BOOLEAN, &[1])
+}
+
+/// A SET whose members descend.
+fn bad_set() -> Element {
+    Element::constructed(tag::SET, vec![Element::integer(&[2]), Element::integer(&[1])])
+}
+
+/// Faults of a single GeneralName, for the three extensions that hold such names.
+fn bad_general_names() -> Vec<(&'static str, Element)> {
+    let name_of = |sets: Vec<Element>| constructed(4, vec![sequence(sets)]);
+    let attribute = || Attribute::new(oid::common_name(), Element::printable("a")).element();
+    let other = Attribute::new(oid::common_name(), Element::printable("b")).element();
+    let kind = || Element::object_identifier(&oid::private_extension());
+    vec![
+        ("a name of form 9", context(9, &[])),
+        ("a universal string", Element::primitive(tag::IA5_STRING, b"www.agency.example")),
+        ("an explicit IA5String", constructed(2, vec![Element::primitive(tag::IA5_STRING, b"a.b")])),
+        ("a constructed URI", constructed(6, vec![])),
+        ("a constructed address", constructed(7, vec![])),
+        ("a constructed mail address", constructed(1, vec![])),
+        ("a constructed registered identifier", constructed(8, vec![kind()])),
+        ("an empty registered identifier", context(8, &[])),
+        ("a registered identifier with an arc starting 80", context(8, &[0x2A, 0x80, 1])),
+        ("an unfinished registered identifier", context(8, &[0x2A, 0x86])),
+        ("a primitive directory name", context(4, &[0x30, 0])),
+        ("an empty directory name choice", constructed(4, vec![])),
+        ("a directory name without its SEQUENCE", constructed(4, vec![Element::set_of(vec![attribute()])])),
+        ("two directory names in one", constructed(4, vec![sequence(vec![]), sequence(vec![])])),
+        ("a directory name with an empty set", name_of(vec![Element::set_of(vec![])])),
+        (
+            "a directory name with an unordered set",
+            name_of(vec![Element::constructed(tag::SET, vec![other, attribute()])]),
+        ),
+        ("an attribute without value", name_of(vec![Element::set_of(vec![sequence(vec![kind()])])])),
+        (
+            "an attribute of three members",
+            name_of(vec![Element::set_of(vec![sequence(vec![kind(), Element::null(), Element::null()])])]),
+        ),
+        ("a primitive other name", context(0, &[])),
+        ("an empty other name", constructed(0, vec![])),
+        ("an other name without value", constructed(0, vec![kind()])),
+        ("an other name with an untagged value", constructed(0, vec![kind(), Element::utf8("x")])),
+        ("an other name with an empty value tag", constructed(0, vec![kind(), constructed(0, vec![])])),
+        (
+            "an other name with two values",
+            constructed(0, vec![kind(), constructed(0, vec![Element::null(), Element::null()])]),
+        ),
+        ("an other name with a primitive value tag", constructed(0, vec![kind(), context(0, &[5, 0])])),
+        ("a primitive x400Address", context(3, &[])),
+        ("a primitive ediPartyName", context(5, &[])),
+        ("an x400Address that is not sound", constructed(3, vec![bad_boolean()])),
+        ("an x400Address with a SET out of order", constructed(3, vec![bad_set()])),
+        ("an ediPartyName that is not sound", constructed(5, vec![Element::integer(&[])])),
+    ]
+}
+
+fn bad_alternative_names() -> Vec<Value> {
+    let mut values = vec![value("no name", sequence(vec![]))];
+    for (what, name) in bad_general_names() {
+        values.push(value(what, sequence(vec![dns(crate::correct::HOST), name])));
+    }
+    values
+}
+
+fn bad_accesses() -> Vec<Value> {
+    let method = || Element::object_identifier(&oid::access_by_ocsp());
+    let good = || access(oid::access_to_issuers(), uri("http://a/b"));
+    let mut values = vec![
+        value("no access", sequence(vec![])),
+        value("an access without location", sequence(vec![good(), sequence(vec![method()])])),
+        value("an access without method", sequence(vec![good(), sequence(vec![uri("http://a")])])),
+        value("an access with two locations", sequence(vec![sequence(vec![method(), uri("a"), uri("b")])])),
+        value("a bare location", sequence(vec![uri("http://a")])),
+    ];
+    for (what, name) in bad_general_names() {
+        values.push(value(what, sequence(vec![good(), access(oid::access_by_ocsp(), name)])));
+    }
+    values
+}
+
+fn bad_points() -> Vec<Value> {
+    let good = || point(vec![full_name(vec![uri("http://a/b")])]);
+    let with = |fields: Vec<Element>| sequence(vec![good(), point(fields)]);
+    let attribute = |text: &str| Attribute::new(oid::common_name(), Element::printable(text)).element();
+    let relative = |members: Vec<Element>| constructed(0, vec![constructed(1, members)]);
+    let mut values = vec![
+        value("no point", sequence(vec![])),
+        value("an empty choice of names", with(vec![constructed(0, vec![])])),
+        value("an empty full name", with(vec![full_name(vec![])])),
+        value("a full name without its explicit tag", with(vec![constructed(0, vec![uri("http://a")])])),
+        value(
+            "both a full and a relative name",
+            with(vec![constructed(
+                0,
+                vec![constructed(0, vec![uri("a")]), constructed(1, vec![attribute("a")])],
+            )]),
+        ),
+        value("an empty relative name", with(vec![relative(vec![])])),
+        value("a relative name out of order", with(vec![relative(vec![attribute("b"), attribute("a")])])),
+        value("a relative name of no attribute", with(vec![relative(vec![Element::null()])])),
+        value(
+            "a relative name in a SET besides",
+            with(vec![relative(vec![Element::set_of(vec![attribute("a")])])]),
+        ),
+        value("a name choice of form 2", with(vec![constructed(0, vec![constructed(2, vec![uri("a")])])])),
+        value("reasons constructed", with(vec![constructed(1, vec![])])),
+        value("reasons without octets", with(vec![context(1, &[])])),
+        value("reasons with trailing zero bits", with(vec![reasons(0, &[0x40])])),
+        value("reasons with eight unused bits", with(vec![reasons(8, &[0x40])])),
+        value("reasons with set unused bits", with(vec![reasons(7, &[0xC0])])),
+        value("reasons with unused bits of nothing", with(vec![reasons(3, &[])])),
+        value("an empty list issuer", with(vec![list_issuer(vec![])])),
+        value("a primitive list issuer", with(vec![context(2, &[])])),
+        value("fields out of order", with(vec![reasons(6, &[0x40]), full_name(vec![uri("http://a")])])),
+        value("reasons twice", with(vec![reasons(6, &[0x40]), reasons(6, &[0x40])])),
+        value("an unknown field", with(vec![context(3, &[])])),
+        value("names instead of a point", sequence(vec![constructed(0, vec![uri("http://a")])])),
+    ];
+    for (what, name) in bad_general_names() {
+        values.push(value(what, with(vec![full_name(vec![name])])));
+    }
+    values.push(value("a bad list issuer", with(vec![list_issuer(vec![context(9, &[])])])));
+    values
+}
+
+fn bad_nochecks() -> Vec<Value> {
+    vec![
+        octets("NULL with contents", &[5, 1, 0]),
+        value("an empty SEQUENCE", sequence(vec![])),
+        value("an empty OCTET STRING", Element::octet_string(&[])),
+        octets("NULL with a long length", &[5, 0x81, 0]),
+    ]
+}
+
+/// A value that nests this many elements, the outermost counted. Depth starts afresh in a value.
+pub fn nested_other_name(depth: usize) -> Element {
+    // names, other name, explicit tag: three levels above the innermost stack.
+    let mut inner = Element::null();
+    for _ in 4..depth {
+        inner = sequence(vec![inner]);
+    }
+    general_names(vec![dns(crate::correct::HOST), other_name(oid::private_extension(), inner)])
+}
+
+/// Values that are good by the ASN.1, with the rules that they break at the OCTET STRING all the
+/// same.
+pub fn edge_values(slot: u8) -> Vec<(Value, Vec<u16>)> {
+    let key = || context(0, &crate::correct::ISSUER_KEY_IDENTIFIER);
+    let good = |what: &str, element: Element| (value(what, element), vec![]);
+    let broken = |what: &str, element: Element, rule: u16| (value(what, element), vec![rule]);
+    let two = RelativeName::of(vec![
+        Attribute::new(oid::common_name(), Element::printable("b")),
+        Attribute::new(oid::common_name(), Element::printable("a")),
+    ]);
+    match slot {
+        1 => vec![
+            broken("no field at all", sequence(vec![]), 401),
+            good("issuers without serial", sequence(vec![key(), constructed(1, vec![uri("")])])),
+            good("serial without issuers", sequence(vec![key(), context(2, &[0x80])])),
+            good(
+                "issuer in a name without sets",
+                sequence(vec![key(), constructed(1, vec![directory(&Name::default())])]),
+            ),
+            broken("serial alone", sequence(vec![context(2, &[0])]), 401),
+            broken("key identifier empty", sequence(vec![context(0, &[])]), 401),
+        ],
+        2 => vec![
+            broken("cA TRUE", sequence(vec![Element::boolean(true)]), 402),
+            broken("a path length without cA", sequence(vec![Element::integer(&[0])]), 402),
+            broken(
+                "cA with a path length of 128",
+                sequence(vec![Element::boolean(true), Element::integer(&[0, 0x80])]),
+                402,
+            ),
+            broken("a path length of forty octets", sequence(vec![Element::integer(&[0x55; 40])]), 402),
+        ],
+        3 => vec![
+            broken("no octet", Element::octet_string(&[]), 403),
+            broken("nineteen octets", Element::octet_string(&[1; 19]), 403),
+            broken("twenty-one octets", Element::octet_string(&[1; 21]), 403),
+        ],
+        4 => vec![
+            broken("no bit", Element::bit_string(0, &[]), 404),
+            broken("a bit past the named ones", named_bits(&[0, 9]), 405),
+            broken("a bit far past the named ones", named_bits(&[0, 77]), 405),
+            broken("decipherOnly, in the second octet", named_bits(&[0, 8]), 405),
+        ],
+        7 => vec![good(
+            "a host name twice",
+            general_names(vec![dns(crate::correct::HOST), dns(crate::correct::HOST)]),
+        )],
+        8 => vec![good(
+            "any form of name with an unknown method",
+            sequence(vec![
+                access(oid::access_by_ocsp(), uri("")),
+                access(oid::access_to_issuers(), uri("http://a")),
+                access(oid::private_extension(), directory(&Name { sets: vec![two], marks: vec![] })),
+                access(oid::private_extension(), x400(vec![])),
+                access(oid::private_extension(), edi_party(vec![])),
+                access(oid::private_extension(), internet_address(&[1, 2, 3])),
+                access(oid::private_extension(), mail("\u{e9}")),
+            ]),
+        )],
+        9 => vec![
+            broken("an empty point alone", sequence(vec![point(vec![])]), 418),
+            good(
+                "a relative name of two in order",
+                sequence(vec![
+                    point(vec![full_name(vec![uri("http://a")])]),
+                    point(vec![relative_name(vec![
+                        Attribute::new(oid::common_name(), Element::printable("b")).element(),
+                        Attribute::new(oid::common_name(), Element::printable("a")).element(),
+                    ])]),
+                ]),
+            ),
+        ],
+        _ => vec![],
+    }
+}

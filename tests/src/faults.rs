@@ -1,0 +1,117 @@
+//! Single faults: each makes a correct pair break known rules at known places, and no others.
+
+mod extensions;
+mod fields;
+pub mod key;
+pub mod values;
+
+use crate::correct::Pair;
+use crate::random::Random;
+
+/// What a fault changes or depends on. Faults that share nothing can be put into one certificate.
+#[derive(Clone, Copy, Debug, PartialEq, Eq)]
+pub enum Aspect {
+    Version,
+    Serial,
+    Algorithms,
+    IssuerName,
+    Times,
+    CommonName,
+    Country,
+    Organization,
+    State,
+    OtherAttributes,
+    Key,
+    /// Whether an extension of the table is there, and what it holds.
+    Extension(u8),
+    /// Whether an extension of the table is critical.
+    Critical(u8),
+    OtherExtensions,
+}
+
+#[derive(Clone)]
+pub struct Fault {
+    pub name: String,
+    /// The rules that it breaks, each once or oftener.
+    pub rules: Vec<u16>,
+    pub profiles: &'static [u8],
+    pub touches: Vec<Aspect>,
+    apply: fn(&mut Pair, &mut Random, u8),
+    /// Handed to `apply`, so that one function serves every row of the table of extensions.
+    slot: u8,
+}
+
+impl Fault {
+    pub fn apply(&self, pair: &mut Pair, random: &mut Random) {
+        (self.apply)(pair, random, self.slot);
+    }
+
+    pub fn exists_in(&self, profile: u8) -> bool {
+        self.profiles.contains(&profile)
+    }
+
+    pub fn is_independent_of(&self, other: &Fault) -> bool {
+        !self.touches.iter().any(|aspect| other.touches.contains(aspect))
+    }
+}
+
+/// All faults there are.
+pub fn catalogue() -> Vec<Fault> {
+    let mut faults = Catalogue { faults: Vec::new() };
+    fields::add(&mut faults);
+    key::add(&mut faults);
+    extensions::add(&mut faults);
+    values::add(&mut faults);
+    faults.faults
+}
+
+struct Catalogue {
+    faults: Vec<Fault>,
+}
+
+impl Catalogue {
+    fn add(
+        &mut self,
+        name: &str,
+        rules: &[u16],
+        profiles: &'static [u8],
+        touches: &[Aspect],
+        apply: fn(&mut Pair, &mut Random, u8),
+    ) {
+        self.add_for_slot(0, name, rules, profiles, touches, apply);
+    }
+
+    fn add_for_slot(
+        &mut self,
+        slot: u8,
+        name: &str,
+        rules: &[u16],
+        profiles: &'static [u8],
+        touches: &[Aspect],
+        apply: fn(&mut Pair, &mut Random, u8),
+    ) {
+        self.faults.push(Fault {
+            name: name.to_string(),
+            rules: rules.to_vec(),
+            profiles,
+            touches: touches.to_vec(),
+            apply,
+            slot,
+        });
+    }
+}
+
+/// Why a rule never is a certificate's only finding in a profile; `None` where it can be.
+pub fn why_never_alone(profile: u8, rule: u16) -> Option<&'static str> {
+    match (profile, rule) {
+        (_, 105) => {
+            Some("it differs from a right outer algorithm (107), or the outer one is wrong too (106)")
+        }
+        (_, 106) => {
+            Some("it differs from a right inner algorithm (107), or the inner one is wrong too (105)")
+        }
+        (_, 107) => Some("two right algorithms are the same octets, so one is wrong (105 or 106)"),
+        (3, 407) => Some("a list of purposes is not empty, and without OCSPSigning each is another (408)"),
+        _ => None,
+    }
+}

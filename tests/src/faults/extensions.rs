@@ -1,0 +1,230 @@
+//! Faults of extensions as such, rules 301 to 363: missing, wrongly critical, of a bad value,
+//! repeated, not allowed.
+
+use super::Aspect::*;
+use super::Catalogue;
+use crate::bad_values::bad_values;
+use crate::certificate::Extension as CertificateExtension;
+use crate::correct::{plain_value, set_extension, Pair};
+use crate::element::{Element, Mark, Part};
+use crate::object_identifiers as oid;
+use crate::profile::*;
+use crate::random::Random;
+
+pub(super) fn add(faults: &mut Catalogue) {
+    for slot in SLOTS {
+        add_for_slot(faults, slot);
+    }
+    add_repeats_of_others(faults);
+    add_forbidden(faults);
+}
+
+/// The profiles in which an extension stands in a certain way.
+fn profiles_where(slot: u8, holds: fn(Standing) -> bool) -> &'static [u8] {
+    match (holds(standing(slot, 1)), holds(standing(slot, 3))) {
+        (true, true) => ALL,
+        (true, false) => SERVER,
+        (false, true) => RESPONDER,
+        (false, false) => &[],
+    }
+}
+
+fn add_for_slot(faults: &mut Catalogue, slot: u8) {
+    let number = u16::from(slot);
+    let mandatory = profiles_where(slot, Standing::is_mandatory);
+    let judged = profiles_where(slot, Standing::is_judged);
+    let both = [Extension(slot), Critical(slot)];
+    let name = |what: &str| format!("extension {slot} {what}");
+    faults.add_for_slot(slot, &name("missing"), &[300 + number], mandatory, &both, |pair, _, slot| {
+        pair.certificate.remove_extension(&identifier_of(slot));
+        pair.certificate.list_marks.push(Mark::Breaks(300 + u16::from(slot)));
+    });
+    faults.add_for_slot(
+        slot,
+        &name("wrongly critical"),
+        &[320 + number],
+        judged,
+        &[Critical(slot)],
+        |pair, _, slot| {
+            ensure(pair, slot);
+            let critical = !standing(slot, pair.profile).is_critical();
+            let extension = pair.extension(slot);
+            extension.critical = critical;
+            extension.breaks_at_extension(320 + u16::from(slot));
+        },
+    );
+    faults.add_for_slot(
+        slot,
+        &name("of a bad value"),
+        &[340 + number],
+        judged,
+        &[Extension(slot)],
+        |pair, random, slot| {
+            ensure(pair, slot);
+            let mut values = bad_values(slot);
+            let chosen = values.swap_remove(random.below(values.len()));
+            pair.extension(slot).value = chosen.parts;
+            pair.extension(slot).breaks_at_value(340 + u16::from(slot));
+        },
+    );
+    faults.add_for_slot(slot, &name("repeated"), &[361], judged, &both, |pair, random, slot| {
+        ensure(pair, slot);
+        let mut later = pair.extension(slot).clone();
+        spoil_repeat(&mut later, random);
+        pair.certificate.extensions.push(later.breaking(361));
+    });
+    faults.add_for_slot(slot, &name("four times"), &[361], judged, &both, |pair, random, slot| {
+        ensure(pair, slot);
+        for _ in 0..3 {
+            let mut later = pair.extension(slot).clone();
+            spoil_repeat(&mut later, random);
+            pair.certificate.extensions.push(later.breaking(361));
+        }
+    });
+}
+
+/// Gives the certificate a plain extension of the table if it has none.
+fn ensure(pair: &mut Pair, slot: u8) {
+    if !pair.certificate.has_extension(&identifier_of(slot)) {
+        let value = plain_value(slot, pair.profile);
+        set_extension(pair, slot, value);
+    }
+}
+
+/// Other rules see the first of an identifier only, so a repeat may be wrong in every way.
+fn spoil_repeat(extension: &mut CertificateExtension, random: &mut Random) {
+    extension.marks.clear();
+    extension.value_marks.clear();
+    if random.once_in(2) {
+        extension.critical = !extension.critical;
+    }
+    if random.once_in(2) {
+        let length = random.below(9);
+        extension.value = vec![Part::Octets(random.octets(length))];
+    }
+}
+
+fn other_extension(identifier: Vec<u8>, critical: bool) -> CertificateExtension {
+    CertificateExtension::new(identifier, critical, Element::null())
+}
+
+fn add_repeats_of_others(faults: &mut Catalogue) {
+    faults.add(
+        "an extension outside the table repeated",
+        &[361],
+        SERVER,
+        &[OtherExtensions],
+        |pair, random, _| {
+            let identifier = random.choose(&[oid::private_extension, oid::name_constraints])();
+            pair.certificate.extensions.push(other_extension(identifier.clone(), false));
+            let critical = random.once_in(2);
+            pair.certificate.extensions.push(other_extension(identifier, critical).breaking(361));
+        },
+    );
+    faults.add("the private key usage period twice", &[361], RESPONDER, &[OtherExtensions], |pair, _, _| {
+        pair.certificate.remove_extension(&oid::private_key_usage_period());
+        pair.certificate.extensions.push(other_extension(oid::private_key_usage_period(), false));
+        pair.certificate
+            .extensions
+            .push(other_extension(oid::private_key_usage_period(), true).breaking(361));
+    });
+    faults.add("a forbidden extension twice", &[361, 362], RESPONDER, &[OtherExtensions], |pair, _, _| {
+        pair.certificate.extensions.push(other_extension(oid::private_extension(), true).breaking(362));
+        pair.certificate.extensions.push(other_extension(oid::private_extension(), true).breaking(361));
+    });
+    faults.add(
+        "a critical strange extension twice",
+        &[361, 363],
+        SERVER,
+        &[OtherExtensions],
+        |pair, _, _| {
+            pair.certificate.extensions.push(other_extension(oid::private_extension(), true).breaking(363));
+            pair.certificate.extensions.push(other_extension(oid::private_extension(), true).breaking(361));
+        },
+    );
+}
+
+fn add_forbidden(faults: &mut Catalogue) {
+    faults.add(
+        "basic constraints at a responder",
+        &[362],
+        RESPONDER,
+        &[OtherExtensions],
+        |pair, random, _| {
+            let mut extension = other_extension(oid::basic_constraints(), random.once_in(2));
+            // Of an extension marked "no" neither 322 nor 342 is judged.
+            if random.once_in(2) {
+                extension.value = vec![Part::Octets(vec![0x30, 0x05])];
+            }
+            insert_anywhere(pair, extension.breaking(362), random);
+        },
+    );
+    faults.add(
+        "an extension that is not in the table",
+        &[362],
+        RESPONDER,
+        &[OtherExtensions],
+        |pair, random, _| {
+            let critical = random.once_in(2);
+            insert_anywhere(pair, other_extension(oid::private_extension(), critical).breaking(362), random);
+        },
+    );
+    faults.add(
+        "three extensions that are not in the table",
+        &[362],
+        RESPONDER,
+        &[OtherExtensions],
+        |pair, random, _| {
+            for identifier in
+                [oid::name_constraints(), oid::issuer_alternative_name(), oid::transparency_list()]
+            {
+                insert_anywhere(pair, other_extension(identifier, false).breaking(362), random);
+            }
+        },
+    );
+    faults.add(
+        "a critical extension outside the table",
+        &[363],
+        SERVER,
+        &[OtherExtensions],
+        |pair, random, _| {
+            insert_anywhere(pair, other_extension(oid::private_extension(), true).breaking(363), random);
+        },
+    );
+    faults.add("a critical nocheck at a server", &[363], SERVER, &[OtherExtensions], |pair, random, _| {
+        pair.certificate.remove_extension(&oid::ocsp_nocheck());
+        insert_anywhere(pair, other_extension(oid::ocsp_nocheck(), true).breaking(363), random);
+    });
+    faults.add(
+        "a critical key usage period at a server",
+        &[363],
+        SERVER,
+        &[OtherExtensions],
+        |pair, random, _| {
+            pair.certificate.remove_extension(&oid::private_key_usage_period());
+            insert_anywhere(
+                pair,
+                other_extension(oid::private_key_usage_period(), true).breaking(363),
+                random,
+            );
+        },
+    );
+    faults.add(
+        "three critical extensions outside the table",
+        &[363],
+        SERVER,
+        &[OtherExtensions],
+        |pair, random, _| {
+            for identifier in
+                [oid::name_constraints(), oid::issuer_alternative_name(), oid::private_extension()]
+            {
+                insert_anywhere(pair, other_extension(identifier, true).breaking(363), random);
+            }
+        },
+    );
+}
+
+fn insert_anywhere(pair: &mut Pair, extension: CertificateExtension, random: &mut Random) {
+    let position = random.below(pair.certificate.extensions.len() + 1);
+    pair.certificate.extensions.insert(position, extension);
+}

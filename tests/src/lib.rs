@@ -1,0 +1,48 @@
+//! Generated, damaged and outside certificates and decks, and what a linter is expected to answer.
+//!
+//! Expectations come from the rules on paper and from the encoder here, which knows where it put
+//! each element. Nothing in this library reads a certificate or a deck back.
+//!
+//! | Module | Holds |
+//! |---|---|
+//! | `element` | the encoder: a tree of elements whose marks have places once it is encoded |
+//! | `object_identifiers`, `general_names`, `keys`, `calendar` | what certificates are made of |
+//! | `certificate`, `profile`, `correct` | a certificate as its fields; correct ones of each profile |
+//! | `faults`, `bad_values` | faults that break known rules at known places |
+//! | `malformed` | certificates that are refused with 4, 5 or 6 at a known place |
+//! | `mutation`, `mutants`, `trees` | chance changes and chance trees |
+//! | `deck` | decks with every kind of damage, and the listing that is due |
+//! | `outside` | certificates that nobody here made |
+//! | `verdicts` | octets with their verdicts of soundness, by hand |
+//! | `holding`, `invariants`, `shrink` | comparing, and showing what differs |
+//! | `program` | running a program of this repository as a process |
+//! | `random`, `amount`, `hex` | small helpers |
+//!
+//! `cargo test -- --nocapture` shows how many cases of each kind were compared and the table of
+//! rules. `DLO_CASES=1000000` asks for more cases of each kind that is made by chance. `DLO_BIN`
+//! names the folder of the programs, and `DLO_NO_PROGRAMS=1` leaves them out.
+
+pub mod amount;
+pub mod bad_values;
+pub mod calendar;
+pub mod certificate;
+pub mod correct;
+pub mod deck;
+pub mod element;
+pub mod faults;
+pub mod general_names;
+pub mod hex;
+pub mod holding;
+pub mod invariants;
+pub mod keys;
+pub mod malformed;
+pub mod mutants;
+pub mod mutation;
+pub mod object_identifiers;
+pub mod outside;
+pub mod profile;
+pub mod program;
+pub mod random;
+pub mod shrink;
+pub mod trees;
+pub mod verdicts;

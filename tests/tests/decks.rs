@@ -1,0 +1,298 @@
+//! Decks whole and damaged: the reference reads them as the damage says, and prints what the paper
+//! says.
+
+use comparison::amount::cases;
+use comparison::correct::{correct, Case};
+use comparison::deck::*;
+use comparison::element::{Element, LengthForm};
+use comparison::faults::catalogue;
+use comparison::hex;
+use comparison::holding::{Comparison, AMPLE_ROOM};
+use comparison::profile::ALL;
+use comparison::random::Random;
+use reference::{block_check, listing, read_deck, write_record, Answer, Loss, Refusal};
+
+/// What the program takes at most.
+const MOST_OCTETS: usize = 65_536;
+
+/// A deck is as much work as so many certificates.
+const CERTIFICATES_A_DECK: usize = 20;
+
+/// A record of any kind: correct, faulty, refused, tiny or of the largest size.
+fn any_record(number: u32, random: &mut Random) -> Record {
+    let case = match random.below(8) {
+        0 => tiny(random),
+        1 => largest(random),
+        2 => unknown_profile(random),
+        3 => empty_sides(random),
+        _ => linted(random),
+    };
+    Record { number, case }
+}
+
+fn linted(random: &mut Random) -> Case {
+    let faults = catalogue();
+    let profile = *random.choose(ALL);
+    let mut pair = correct(profile, random);
+    for _ in 0..random.below(3) {
+        let fault = random.choose(&faults);
+        if fault.exists_in(profile) {
+            fault.apply(&mut pair, random);
+            break;
+        }
+    }
+    pair.encode()
+}
+
+fn refused(number: u8, side: u8, place: usize) -> Answer {
+    Answer::Refused(Refusal { number, side, place })
+}
+
+fn tiny(random: &mut Random) -> Case {
+    Case {
+        profile: *random.choose(ALL),
+        certificate: vec![0x30, 0],
+        issuer: vec![0x30, 0],
+        expected: refused(6, 1, 0),
+    }
+}
+
+/// Two elements of the most octets that are allowed: a record of 33 blocks.
+fn largest(random: &mut Random) -> Case {
+    let element = Element::octet_string(&random.octets(8188)).octets();
+    assert_eq!(element.len(), 8192);
+    Case { profile: 2, certificate: element.clone(), issuer: element, expected: refused(6, 1, 0) }
+}
+
+/// The reader asks nothing of the profile octet; the linter refuses it.
+fn unknown_profile(random: &mut Random) -> Case {
+    let case = linted(random);
+    Case { profile: *random.choose(&[0, 4, 5, 255]), expected: refused(3, 0, 0), ..case }
+}
+
+/// Records that our writer would not write and that are well formed all the same.
+fn empty_sides(random: &mut Random) -> Case {
+    let case = linted(random);
+    match random.below(3) {
+        0 => Case { certificate: Vec::new(), issuer: Vec::new(), expected: refused(1, 1, 0), ..case },
+        1 => Case { certificate: Vec::new(), expected: refused(1, 1, 0), ..case },
+        _ => Case { issuer: Vec::new(), expected: refused(2, 2, 0), ..case },
+    }
+}
+
+fn hold_deck(comparison: &mut Comparison, what: &str, deck: &Deck, room: usize) {
+    let answered = read_deck(&deck.octets, room);
+    comparison.hold(what, &deck.events(room), &answered, || {
+        format!("room {room}, deck {}", hex::text(&deck.octets))
+    });
+}
+
+fn hold_listing(comparison: &mut Comparison, what: &str, deck: &Deck) {
+    let expected = if deck.octets.len() > MOST_OCTETS {
+        "deck too long\n".to_string()
+    } else {
+        listing_of(&deck.events(AMPLE_ROOM), deck.blocks())
+    };
+    let answered = String::from_utf8(listing(&deck.octets)).expect("a listing is ASCII");
+    comparison.hold(what, &expected, &answered, || format!("deck {}", hex::text(&deck.octets)));
+}
+
+#[test]
+fn the_check_is_the_weighted_sum() {
+    let mut random = Random::for_purpose("checks");
+    let mut comparison = Comparison::of("checks of blocks");
+    let mut hold = |block: &[u8]| {
+        comparison.hold("a check", &check(block), &block_check(block), || hex::text(block));
+    };
+    for _ in 0..500 {
+        hold(&random.octets(BLOCK));
+    }
+    for octet in 0..=255 {
+        hold(&[octet; BLOCK]);
+    }
+    comparison.finish();
+}
+
+#[test]
+fn the_one_is_part_of_what_is_divided() {
+    // 260 times 252 is 65,520, so the check is (1 + 65,520) modulo 65,521, which is 0.
+    let mut block = vec![0; BLOCK];
+    block[259] = 252;
+    assert_eq!(check(&block), 0);
+    assert_eq!(block_check(&block), 0);
+}
+
+#[test]
+fn a_written_record_reads_back_as_it_was() {
+    let mut comparison = Comparison::of("records written and read back");
+    let mut random = Random::for_purpose("read back");
+    for number in 1..=400 {
+        let record = Record { number, case: linted(&mut random) };
+        let Case { profile, certificate, issuer, .. } = &record.case;
+        let written = write_record(number, *profile, certificate, issuer, 33 * BLOCK);
+        comparison.hold("the blocks", &Ok(record.blocks().concat()), &written, || format!("record {number}"));
+        let mut deck = Deck::default();
+        deck.push_record(&record);
+        hold_deck(&mut comparison, "the record", &deck, AMPLE_ROOM);
+    }
+    comparison.finish();
+}
+
+#[test]
+fn decks_with_every_kind_of_damage() {
+    let mut comparison = Comparison::of("decks with damage");
+    let mut listings = Comparison::of("listings of decks with damage");
+    let mut random = Random::for_purpose("damaged decks");
+    let mut met = std::collections::BTreeMap::<String, usize>::new();
+    for _ in 0..cases(30_000) / CERTIFICATES_A_DECK {
+        let mut deck = Deck::default();
+        for number in 1..=random.between(1, 7) as u32 {
+            let damage = if random.once_in(2) { Damage::None } else { *random.choose(&DAMAGES) };
+            *met.entry(format!("{damage:?}")).or_default() += 1;
+            push_damaged(&mut deck, &any_record(number, &mut random), damage, &mut random);
+        }
+        if random.once_in(3) {
+            let record = any_record(99, &mut random);
+            let whole = record.blocks().len() * BLOCK;
+            push_torn(&mut deck, &record, random.below(whole));
+            *met.entry("Torn".to_string()).or_default() += 1;
+        }
+        let room = if random.once_in(4) { random.below(30) } else { AMPLE_ROOM };
+        hold_deck(&mut comparison, "a damaged deck", &deck, room);
+        hold_listing(&mut listings, "a damaged deck", &deck);
+    }
+    comparison.finish();
+    listings.finish();
+    println!("damage: {met:?}");
+    assert_eq!(met.len(), DAMAGES.len() + 1, "every kind of damage was met");
+}
+
+#[test]
+fn one_block_damaged_in_every_way_leaves_the_others() {
+    let mut comparison = Comparison::of("decks of three records, one of them damaged");
+    let mut random = Random::for_purpose("one damaged");
+    for damage in DAMAGES {
+        for _ in 0..20 {
+            let mut deck = Deck::default();
+            deck.push_record(&any_record(1, &mut random));
+            push_damaged(&mut deck, &any_record(2, &mut random), damage, &mut random);
+            deck.push_record(&any_record(3, &mut random));
+            hold_deck(&mut comparison, &format!("{damage:?}"), &deck, AMPLE_ROOM);
+        }
+    }
+    comparison.finish();
+}
+
+#[test]
+fn blocks_exchanged_between_two_records() {
+    let mut comparison = Comparison::of("decks with blocks exchanged between two records");
+    let mut random = Random::for_purpose("exchanged blocks");
+    for _ in 0..400 {
+        let mut deck = Deck::default();
+        deck.push_record(&any_record(1, &mut random));
+        let (second, third) = (any_record(2, &mut random), any_record(3, &mut random));
+        push_exchanged(&mut deck, &second, &third, &mut random);
+        deck.push_record(&any_record(4, &mut random));
+        hold_deck(&mut comparison, "exchanged blocks", &deck, AMPLE_ROOM);
+    }
+    comparison.finish();
+}
+
+#[test]
+fn spoiling_a_good_block_always_fails_its_check() {
+    let mut comparison = Comparison::of("spoiled blocks: one octet, two octets exchanged, all 00, all FF");
+    let mut random = Random::for_purpose("spoiled blocks");
+    let good = Record { number: 1, case: tiny(&mut random) }.blocks().remove(0);
+    let mut lost = |block: &[u8]| {
+        let mut deck = Deck::default();
+        deck.push_lost(block, Loss::Unsound);
+        hold_deck(&mut comparison, "a spoiled block", &deck, AMPLE_ROOM);
+    };
+    for position in 0..BLOCK {
+        for _ in 0..4 {
+            let mut block = good.clone();
+            block[position] ^= random.between(1, 255) as u8;
+            lost(&block);
+        }
+    }
+    for _ in 0..2000 {
+        let mut block = good.clone();
+        exchange_octets(&mut block, &mut random);
+        lost(&block);
+    }
+    lost(&[0; BLOCK]);
+    lost(&[0xFF; BLOCK]);
+    comparison.finish();
+}
+
+#[test]
+fn every_length_of_a_torn_deck() {
+    let mut comparison = Comparison::of("decks torn at every octet");
+    let mut random = Random::for_purpose("torn decks");
+    let (first, second) = (any_two_block_record(1, &mut random), any_two_block_record(2, &mut random));
+    for kept in 0..second.blocks().len() * BLOCK {
+        let mut deck = Deck::default();
+        deck.push_record(&first);
+        push_torn(&mut deck, &second, kept);
+        hold_deck(&mut comparison, "a torn deck", &deck, AMPLE_ROOM);
+    }
+    comparison.finish();
+}
+
+fn any_two_block_record(number: u32, random: &mut Random) -> Record {
+    let certificate = Element::octet_string(&random.octets(600)).octets();
+    let case = Case { profile: 1, certificate, issuer: vec![0x30, 0], expected: refused(6, 1, 0) };
+    Record { number, case }
+}
+
+#[test]
+fn records_that_just_fill_their_blocks() {
+    let mut comparison = Comparison::of("records of every length around the end of a block");
+    for blocks in [1, 2, 3, 32] {
+        for length in blocks * 502 - 3..=blocks * 502 + 3 {
+            let certificate = Element::octet_string(&vec![7; 200]).octets();
+            let rest = length - 3 - certificate.len();
+            let issuer = vec![0x55; rest];
+            let expected = if issuer.len() > 8192 { refused(2, 2, 0) } else { refused(6, 1, 0) };
+            let mut deck = Deck::default();
+            deck.push_record(&Record { number: 5, case: Case { profile: 1, certificate, issuer, expected } });
+            assert_eq!(deck.blocks(), length.div_ceil(502));
+            hold_deck(&mut comparison, "a record at the edge", &deck, AMPLE_ROOM);
+        }
+    }
+    comparison.finish();
+}
+
+#[test]
+fn the_longest_deck_that_the_program_takes() {
+    let mut comparison = Comparison::of("listings of decks around the most octets taken");
+    let mut random = Random::for_purpose("longest decks");
+    for octets in [0, 1, BLOCK, MOST_OCTETS - 1, MOST_OCTETS, MOST_OCTETS + 1, MOST_OCTETS + BLOCK] {
+        let mut deck = Deck::default();
+        let mut number = 1;
+        while deck.octets.len() + BLOCK <= octets {
+            deck.push_record(&Record { number, case: tiny(&mut random) });
+            number += 1;
+        }
+        let rest = octets - deck.octets.len();
+        if rest > 0 {
+            deck.push_lost(&vec![0x30; rest], Loss::Short);
+        }
+        hold_listing(&mut comparison, &format!("{octets} octets"), &deck);
+    }
+    comparison.finish();
+}
+
+#[test]
+fn an_unsound_certificate_is_listed_with_its_place() {
+    let mut comparison = Comparison::of("listings of refused records");
+    let inner = Element::integer(&[1]).with_length_form(LengthForm::Long(1));
+    let certificate = Element::sequence(vec![Element::null(), inner]).octets();
+    let case = Case { profile: 3, certificate, issuer: vec![0x30, 0], expected: refused(4, 1, 4) };
+    let mut deck = Deck::default();
+    deck.push_record(&Record { number: 4_000_000_000, case });
+    hold_listing(&mut comparison, "refused", &deck);
+    let text = String::from_utf8(listing(&deck.octets)).expect("a listing is ASCII");
+    assert_eq!(text, "record 4000000000 profile 3 refused 4 side 1 at 4\nrecords 1 blocks 1 lost 0\n");
+    comparison.finish();
+}

@@ -1,0 +1,286 @@
+//! Every rule in every profile: the reference answers as the paper and the encoder say.
+
+use std::collections::BTreeMap;
+
+use comparison::amount::cases;
+use comparison::bad_values::{bad_values, edge_values, nested_other_name};
+use comparison::correct::{correct, plain, plain_value, set_extension, Pair};
+use comparison::faults::key::every_bad_rsa_bits;
+use comparison::faults::values::malformed_hosts;
+use comparison::faults::{catalogue, why_never_alone, Fault};
+use comparison::general_names::{dns, named_bits};
+use comparison::holding::{rules_of, Comparison};
+use comparison::profile::{existing_rules, is_server, standing, ALL, SLOTS};
+use comparison::random::Random;
+
+#[test]
+fn correct_certificates_have_no_finding() {
+    let mut comparison = Comparison::of("correct certificates");
+    let mut random = Random::for_purpose("correct certificates");
+    for profile in ALL {
+        comparison.hold_reference("the plain certificate", &plain(*profile).encode());
+        for _ in 0..cases(3000) / 3 {
+            comparison.hold_reference("a correct certificate", &correct(*profile, &mut random).encode());
+        }
+    }
+    comparison.finish();
+}
+
+/// How often a rule was reached in a profile, and how often it was the only finding.
+#[derive(Default)]
+struct Reached {
+    together: usize,
+    alone: usize,
+}
+
+#[test]
+fn every_rule_is_reached_in_every_profile_that_has_it() {
+    let mut comparison = Comparison::of("certificates with a single fault");
+    let mut random = Random::for_purpose("single faults");
+    let faults = catalogue();
+    let mut reached: BTreeMap<(u16, u8), Reached> = BTreeMap::new();
+    let rounds = cases(24_000).div_ceil(3 * faults.len());
+    for profile in ALL {
+        for fault in faults.iter().filter(|fault| fault.exists_in(*profile)) {
+            for _ in 0..rounds {
+                let mut pair = correct(*profile, &mut random);
+                fault.apply(&mut pair, &mut random);
+                let case = pair.encode();
+                let rules = rules_of(&case.expected);
+                assert_eq!(
+                    distinct(&rules),
+                    sorted(&fault.rules),
+                    "the fault {:?} breaks what it says",
+                    fault.name
+                );
+                comparison.hold_reference(&fault.name, &case);
+                for rule in distinct(&rules) {
+                    let entry = reached.entry((rule, *profile)).or_default();
+                    entry.together += 1;
+                    entry.alone += usize::from(rules.len() == 1);
+                }
+            }
+        }
+    }
+    comparison.finish();
+    print_and_hold_the_table(&reached);
+}
+
+fn distinct(rules: &[u16]) -> Vec<u16> {
+    let mut rules = rules.to_vec();
+    rules.dedup();
+    rules
+}
+
+fn sorted(rules: &[u16]) -> Vec<u16> {
+    let mut rules = rules.to_vec();
+    rules.sort_unstable();
+    rules
+}
+
+/// Prints for each rule and profile how many certificates broke it, and how many of them broke
+/// nothing else.
+fn print_and_hold_the_table(reached: &BTreeMap<(u16, u8), Reached>) {
+    let mut missing = Vec::new();
+    let mut pairs = 0;
+    println!("certificates that broke a rule, and of these the ones that broke nothing else");
+    println!("rule   profile 1         profile 2         profile 3");
+    let mut all: Vec<u16> = ALL.iter().flat_map(|profile| existing_rules(*profile)).collect();
+    all.sort_unstable();
+    all.dedup();
+    for rule in all {
+        let mut line = format!("{rule:<5}");
+        for profile in ALL {
+            if !existing_rules(*profile).contains(&rule) {
+                line += "  -               ";
+                assert!(!reached.contains_key(&(rule, *profile)), "{rule} is no rule of profile {profile}");
+                continue;
+            }
+            pairs += 1;
+            let none = Reached::default();
+            let count = reached.get(&(rule, *profile)).unwrap_or(&none);
+            line += &format!("  {:>6}, {:>6}  ", count.together, count.alone);
+            let never_alone = why_never_alone(*profile, rule);
+            if count.together == 0 || (count.alone == 0 && never_alone.is_none()) {
+                missing.push((rule, *profile));
+            }
+            assert!(count.alone == 0 || never_alone.is_none(), "{rule} came alone in profile {profile}");
+        }
+        println!("{line}");
+    }
+    for (profile, rule) in [(1, 105), (1, 106), (1, 107), (3, 407)] {
+        println!("{rule} never comes alone: {}", why_never_alone(profile, rule).expect("there is a reason"));
+    }
+    println!("{pairs} pairs of rule and profile exist, {} were not reached", missing.len());
+    assert!(missing.is_empty(), "not reached, or never alone: {missing:?}");
+    // Counted by hand in the paper.
+    assert_eq!(pairs, 67 + 71 + 64, "the paper has this many pairs of rule and profile");
+}
+
+#[test]
+fn every_bad_value_breaks_its_rule() {
+    let mut comparison = Comparison::of("bad extension values, one by one");
+    for profile in ALL {
+        for slot in SLOTS.filter(|slot| standing(*slot, *profile).is_judged()) {
+            for value in bad_values(slot) {
+                let mut pair = plain(*profile);
+                set_extension(&mut pair, slot, plain_value(slot, *profile));
+                pair.extension(slot).value = value.parts;
+                pair.extension(slot).breaks_at_value(340 + u16::from(slot));
+                comparison.hold_reference(&format!("extension {slot}: {}", value.what), &pair.encode());
+            }
+        }
+    }
+    comparison.finish();
+}
+
+#[test]
+fn values_on_the_edge_are_good() {
+    let mut comparison = Comparison::of("extension values on the edge");
+    for profile in ALL {
+        for slot in SLOTS.filter(|slot| standing(*slot, *profile).is_judged()) {
+            for (value, rules) in edge_values(slot) {
+                let mut pair = plain(*profile);
+                set_extension(&mut pair, slot, plain_value(slot, *profile));
+                pair.extension(slot).value = value.parts;
+                for rule in rules.iter().filter(|rule| existing_rules(*profile).contains(rule)) {
+                    pair.extension(slot).breaks_at_value(*rule);
+                }
+                comparison.hold_reference(&format!("extension {slot}: {}", value.what), &pair.encode());
+            }
+        }
+    }
+    comparison.finish();
+}
+
+#[test]
+fn a_value_nests_sixteen_deep_and_no_deeper() {
+    let mut comparison = Comparison::of("values nested at the edge of depth");
+    for profile in ALL {
+        for depth in 4..=20 {
+            let mut pair = plain(*profile);
+            let mut names = nested_other_name(depth);
+            if depth <= 16 {
+                let other = names.members_mut().nth(1).expect("the other name is the second");
+                *other = other.clone().breaking(412);
+            }
+            set_extension(&mut pair, 7, names);
+            if depth > 16 {
+                pair.extension(7).breaks_at_value(347);
+            }
+            comparison.hold_reference(&format!("nested {depth} deep"), &pair.encode());
+        }
+    }
+    comparison.finish();
+}
+
+#[test]
+fn every_kind_of_bad_rsa_bits_breaks_204() {
+    let mut comparison = Comparison::of("bad RSA bits, one by one");
+    let mut random = Random::for_purpose("bad RSA bits");
+    for profile in ALL {
+        for bits in every_bad_rsa_bits(&mut random) {
+            let mut pair = plain(*profile);
+            pair.certificate.key_bits = bits;
+            comparison.hold_reference("RSA bits", &pair.encode());
+        }
+    }
+    comparison.finish();
+}
+
+#[test]
+fn every_malformed_host_breaks_414() {
+    let mut comparison = Comparison::of("malformed host names, one by one");
+    for profile in ALL {
+        for host in malformed_hosts() {
+            let mut pair = plain(*profile);
+            let name = comparison::element::Element::primitive(0x82, &host).breaking(414);
+            let mut names = plain_value(7, *profile);
+            names.push(name);
+            set_extension(&mut pair, 7, names);
+            comparison.hold_reference(&format!("host {:?}", String::from_utf8_lossy(&host)), &pair.encode());
+        }
+        // Every single octet as the middle of a label: letters, digits, hyphen and underscore pass.
+        for octet in 0..=255u8 {
+            let mut pair = plain(*profile);
+            let passes = octet.is_ascii_alphanumeric() || b"-_.".contains(&octet);
+            let mut name = comparison::element::Element::primitive(0x82, &[b'a', octet, b'b', b'.', b'c']);
+            if !passes {
+                name = name.breaking(414);
+            }
+            if octet == b'_' && is_server(*profile) {
+                name = name.breaking(413);
+            }
+            set_extension(
+                &mut pair,
+                7,
+                comparison::element::Element::sequence(vec![dns("www.agency.example"), name]),
+            );
+            comparison.hold_reference(&format!("octet {octet:02X} in a label"), &pair.encode());
+        }
+    }
+    comparison.finish();
+}
+
+#[test]
+fn every_usage_is_judged_by_key_and_profile() {
+    let mut comparison = Comparison::of("key usages: all sets of the nine named bits, and bits past them");
+    let mut random = Random::for_purpose("key usages");
+    for profile in ALL {
+        for with_curve in [false, true] {
+            let mut base = plain(*profile);
+            if with_curve {
+                comparison::keys::use_good_elliptic_curve(&mut base.certificate, &mut random);
+                if !is_server(*profile) {
+                    base.certificate.key_algorithm = base.certificate.key_algorithm.clone().breaking(201);
+                }
+            }
+            let allowed = match (is_server(*profile), with_curve) {
+                (true, false) => Some(2),
+                (true, true) => Some(4),
+                (false, _) => None,
+            };
+            let named = (0..512usize).map(|set| (0..9).filter(|bit| set >> bit & 1 == 1).collect::<Vec<_>>());
+            let past = (9..64).flat_map(|bit| [vec![bit], vec![0, bit], vec![0, bit, bit + 8]]);
+            for bits in named.chain(past) {
+                let mut pair = base.clone();
+                pair.extension(4).set_value(named_bits(&bits));
+                if !bits.contains(&0) {
+                    pair.extension(4).breaks_at_value(404);
+                }
+                if bits.iter().any(|bit| *bit != 0 && Some(*bit) != allowed) {
+                    pair.extension(4).breaks_at_value(405);
+                }
+                comparison.hold_reference(&format!("usage bits {bits:?}"), &pair.encode());
+            }
+        }
+    }
+    comparison.finish();
+}
+
+#[test]
+fn independent_faults_add_up() {
+    let mut comparison = Comparison::of("certificates with several independent faults");
+    let mut random = Random::for_purpose("several faults");
+    let faults = catalogue();
+    for _ in 0..cases(24_000) {
+        let profile = *random.choose(ALL);
+        let case = mix(profile, &faults, &mut random).encode();
+        comparison.hold_reference("several faults", &case);
+    }
+    comparison.finish();
+}
+
+/// A correct certificate with some faults, no two of which touch the same thing.
+fn mix(profile: u8, faults: &[Fault], random: &mut Random) -> Pair {
+    let mut pair = correct(profile, random);
+    let mut chosen: Vec<&Fault> = Vec::new();
+    for _ in 0..random.between(2, 14) {
+        let fault = random.choose(faults);
+        if fault.exists_in(profile) && chosen.iter().all(|other| fault.is_independent_of(other)) {
+            fault.apply(&mut pair, random);
+            chosen.push(fault);
+        }
+    }
+    pair
+}
