@@ -328,6 +328,58 @@ fn bad_nochecks() -> Vec<Value> {
     ]
 }
 
+/// A good value with every field, and with every form of name where it holds names.
+pub fn fullest_value(slot: u8) -> Element {
+    let names = every_form_of_name;
+    match slot {
+        1 => sequence(vec![context(0, &[1]), constructed(1, names()), context(2, &[1])]),
+        2 => sequence(vec![Element::boolean(true), Element::integer(&[1])]),
+        3 => Element::octet_string(&[7, 7]),
+        4 => named_bits(&[0, 8]),
+        5 => {
+            sequence(vec![Element::object_identifier(&[0x2A]), Element::object_identifier(&[0x81, 0x34, 3])])
+        }
+        6 => {
+            let qualifiers =
+                vec![qualifier(vec![0x2A], Element::null()), qualifier(vec![0x2B], sequence(vec![]))];
+            sequence(vec![policy(vec![0x2A], vec![]), policy(vec![0x2B], qualifiers)])
+        }
+        7 => general_names(names()),
+        8 => sequence(names().into_iter().map(|name| access(vec![0x2A], name)).collect()),
+        9 => sequence(vec![
+            point(vec![full_name(names()), reasons(7, &[0x40, 0x80]), list_issuer(short_names())]),
+            point(vec![relative_name(vec![short_attribute("a"), short_attribute("b")])]),
+            point(vec![]),
+        ]),
+        10 => Element::null(),
+        _ => panic!("the table has no row {slot}"),
+    }
+}
+
+fn short_attribute(text: &str) -> Element {
+    Attribute::new(vec![0x2A], Element::printable(text)).element()
+}
+
+fn short_names() -> Vec<Element> {
+    vec![uri("a")]
+}
+
+/// A name of each form, [0] to [8].
+fn every_form_of_name() -> Vec<Element> {
+    let attributes = vec![short_attribute("a"), short_attribute("b")];
+    vec![
+        other_name(vec![0x2A], Element::null()),
+        mail("a"),
+        dns("a"),
+        x400(vec![]),
+        constructed(4, vec![sequence(vec![Element::set_of(attributes)])]),
+        edi_party(vec![Element::null()]),
+        uri("a"),
+        internet_address(&[1]),
+        registered_identifier(&[0x2A, 0x86, 1]),
+    ]
+}
+
 /// A value that nests this many elements, the outermost counted. Depth starts afresh in a value.
 pub fn nested_other_name(depth: usize) -> Element {
     // names, other name, explicit tag: three levels above the innermost stack.

@@ -4,7 +4,7 @@ use reference::{Answer, Entry, Refusal};
 
 use crate::calendar::{Fields, Moment, DAY};
 use crate::certificate::{
-    signature_algorithm, version, Attribute, Certificate, Extension, KeyKind, Name, RelativeName,
+    algorithm, signature_algorithm, version, Attribute, Certificate, Extension, KeyKind, Name, RelativeName,
 };
 use crate::element::{tag, Element, Encoded, Mark, Part};
 use crate::general_names::*;
@@ -96,6 +96,47 @@ pub fn correct(profile: u8, random: &mut Random) -> Pair {
     let mut pair = plain(profile);
     vary(&mut pair, random);
     pair
+}
+
+/// As short a certificate as is not refused. It breaks many rules.
+pub fn shortest() -> Certificate {
+    let algorithm = || algorithm(vec![0x2A], None);
+    Certificate {
+        version: None,
+        serial: Element::integer(&[1]),
+        inner_algorithm: algorithm(),
+        issuer: Name::default(),
+        subject: Name::default(),
+        key_algorithm: algorithm(),
+        key_bits: Element::bit_string(0, &[]),
+        extensions: Vec::new(),
+        outer_algorithm: algorithm(),
+        signature: Element::bit_string(0, &[]),
+        ..plain(1).certificate
+    }
+}
+
+/// As short a certificate as has every field, and two of what can be repeated.
+pub fn shortest_with_every_field() -> Certificate {
+    let attribute = |text: &str| Attribute::new(vec![0x2A], Element::utf8(text));
+    let extension = |critical: bool| Extension::new(vec![0x2A], critical, Element::null());
+    let algorithm = algorithm(vec![0x2A], Some(Element::null()));
+    Certificate {
+        version: Some(version(2)),
+        inner_algorithm: algorithm.clone(),
+        issuer: Name::of(vec![attribute("a")]),
+        not_after: Moment::at(2050, 1, 1).generalized(),
+        subject: Name {
+            sets: vec![RelativeName::of(vec![attribute("a"), attribute("b")])],
+            ..Name::default()
+        },
+        key_algorithm: algorithm.clone(),
+        issuer_unique: Some(Element::primitive(tag::context(1), &[])),
+        subject_unique: Some(Element::primitive(tag::context(2), &[0])),
+        extensions: vec![extension(true), extension(false)],
+        outer_algorithm: algorithm,
+        ..shortest()
+    }
 }
 
 pub const ISSUER_KEY_IDENTIFIER: [u8; 20] = *b"issuer's key, hashed";

@@ -223,6 +223,22 @@ impl Element {
         self.marks.iter().any(|mark| matches!(mark, Mark::Name(given) if *given == name))
     }
 
+    /// The same encoding, with all that is not on the way to the first node of this name put down as
+    /// octets: quick to encode again when only that node changes. Marks beside the way are lost.
+    pub fn encoded_around(mut self, name: &str) -> Element {
+        let mut is_found = self.is_named(name);
+        for part in &mut self.contents {
+            let Part::Element(member) = part else { continue };
+            *part = if !is_found && member.try_find(name).is_some() {
+                is_found = true;
+                Part::Element(member.clone().encoded_around(name))
+            } else {
+                Part::Octets(member.octets())
+            };
+        }
+        self
+    }
+
     /// Takes the first member with this name out of this element.
     pub fn remove(&mut self, name: &str) -> Element {
         let is_it = |part: &Part| matches!(part, Part::Element(element) if element.is_named(name));
@@ -288,6 +304,11 @@ pub fn long_length(length: usize, count: usize) -> Vec<u8> {
     octets
 }
 
+/// The octets of parts one after the other, without an element around them.
+pub fn octets_of(parts: &[Part]) -> Vec<u8> {
+    encode_parts(parts).octets
+}
+
 fn encode_parts(parts: &[Part]) -> Encoded {
     let mut whole = Encoded { octets: Vec::new(), marks: Vec::new() };
     for part in parts {
@@ -335,6 +356,17 @@ mod tests {
         assert_eq!(encoded.place_of("bits"), Place { start: 3 + 203, length: 7 });
         assert_eq!(encoded.place_of("inner"), Place { start: 3 + 203 + 3, length: 4 });
         assert_eq!(encoded.octets[209..213], [2, 2, 1, 2]);
+    }
+
+    #[test]
+    fn what_is_encoded_around_a_node_leaves_the_encoding_as_it_was() {
+        let inner = Element::sequence(vec![Element::null(), Element::integer(&[5]).named("five")]);
+        let tree = Element::sequence(vec![inner.clone(), Element::sequence(vec![inner])]);
+        let mut around = tree.clone().encoded_around("five");
+        assert_eq!(around.octets(), tree.octets());
+        assert_eq!(around.members().count(), 1);
+        around.find("five").set_octets(&[6, 7]);
+        assert_eq!(around.octets()[..10], [0x30, 17, 0x30, 6, 5, 0, 2, 2, 6, 7]);
     }
 
     #[test]

@@ -10,12 +10,15 @@
 //! | `certificate`, `profile`, `correct` | a certificate as its fields; correct ones of each profile |
 //! | `faults`, `bad_values` | faults that break known rules at known places |
 //! | `malformed` | certificates that are refused with 4, 5 or 6 at a known place |
+//! | `times` | times at every edge, and whether they are times |
 //! | `mutation`, `mutants`, `trees` | chance changes and chance trees |
 //! | `deck` | decks with every kind of damage, and the listing that is due |
 //! | `outside` | certificates that nobody here made |
 //! | `verdicts` | octets with their verdicts of soundness, by hand |
+//! | `grammar` | octets that are certificates or extension values, and octets that are none, by hand |
 //! | `holding`, `invariants`, `shrink` | comparing, and showing what differs |
 //! | `program` | running a program of this repository as a process |
+//! | `answers` | a program that answers frames with lines, held to the lines that are expected |
 //! | `random`, `amount`, `hex` | small helpers |
 //!
 //! `cargo test -- --nocapture` shows how many cases of each kind were compared and the table of
@@ -23,6 +26,7 @@
 //! names the folder of the programs, and `DLO_NO_PROGRAMS=1` leaves them out.
 
 pub mod amount;
+pub mod answers;
 pub mod bad_values;
 pub mod calendar;
 pub mod certificate;
@@ -31,6 +35,7 @@ pub mod deck;
 pub mod element;
 pub mod faults;
 pub mod general_names;
+pub mod grammar;
 pub mod hex;
 pub mod holding;
 pub mod invariants;
@@ -44,5 +49,6 @@ pub mod profile;
 pub mod program;
 pub mod random;
 pub mod shrink;
+pub mod times;
 pub mod trees;
 pub mod verdicts;

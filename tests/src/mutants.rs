@@ -101,3 +101,44 @@ impl Iterator for Mutants {
         Some(mutant)
     }
 }
+
+/// Generated certificates with a fault perhaps: as they are, with one element changed, and with
+/// octets changed besides.
+pub fn whole_and_mutated(purpose: &str) -> impl Iterator<Item = Vec<u8>> {
+    let mut random = Random::for_purpose(purpose);
+    let faults = catalogue();
+    std::iter::repeat_with(move || {
+        let profile = *random.choose(ALL);
+        let mut pair = correct(profile, &mut random);
+        let fault = random.choose(&faults);
+        if fault.exists_in(profile) {
+            fault.apply(&mut pair, &mut random);
+        }
+        let mut tree = pair.certificate.element();
+        let change = random.below(3);
+        if change > 0 {
+            mutate_element(&mut tree, &mut random);
+        }
+        let mut octets = tree.octets();
+        if change > 1 {
+            mutate_octets(&mut octets, &mut random);
+        }
+        octets
+    })
+}
+
+/// Everything from outside, each item as it is and three times with octets changed.
+pub fn outside_whole_and_mutated(purpose: &str) -> Vec<Vec<u8>> {
+    let mut random = Random::for_purpose(purpose);
+    let mut items = Vec::new();
+    let sources = [outside::certificates(), outside::revocation_lists(), outside::not_certificates()];
+    for item in sources.into_iter().flatten() {
+        items.push(item.octets.clone());
+        for _ in 0..3 {
+            let mut octets = item.octets.clone();
+            mutate_octets(&mut octets, &mut random);
+            items.push(octets);
+        }
+    }
+    items
+}

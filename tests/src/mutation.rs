@@ -116,3 +116,59 @@ fn insert_something(element: &mut Element, random: &mut Random) {
     let position = random.below(element.contents.len() + 1);
     element.contents.insert(position, Part::Element(crate::trees::small_element(random)));
 }
+
+/// Puts a small element in place of one element of a tree.
+pub fn replace_element(tree: &mut Element, random: &mut Random) {
+    let chosen = random.below(count(tree));
+    *nth(tree, chosen).expect("the tree has as many elements as were counted") =
+        crate::trees::small_element(random);
+}
+
+/// Every change of a single octet, every octet taken out, and every cut that leaves something.
+pub fn every_change_of_an_octet(octets: &[u8]) -> Vec<Vec<u8>> {
+    let mut changed = Vec::new();
+    for position in 0..octets.len() {
+        for octet in (0..=255).filter(|octet| *octet != octets[position]) {
+            let mut other = octets.to_vec();
+            other[position] = octet;
+            changed.push(other);
+        }
+        changed.push([&octets[..position], &octets[position + 1..]].concat());
+        if position > 0 {
+            changed.push(octets[..position].to_vec());
+        }
+    }
+    changed
+}
+
+/// Every element with every identifier octet, and every element emptied, doubled, taken out, turned
+/// round, and with a neighbour before or a member at its end. Lengths around it follow.
+pub fn every_change_of_an_element(tree: &Element) -> Vec<Element> {
+    let mut changed = Vec::new();
+    for position in 0..count(tree) {
+        let mut add = |change: &dyn Fn(&mut Element)| {
+            let mut other = tree.clone();
+            change(nth(&mut other, position).expect("the tree has as many elements as were counted"));
+            changed.push(other);
+        };
+        for identifier in 0..=255 {
+            add(&|element| element.identifier = identifier);
+        }
+        add(&|element| element.contents.clear());
+        add(&|element| element.contents.reverse());
+        for added in [Element::null(), Element::sequence(vec![]), Element::object_identifier(&[0x2A])] {
+            add(&|element| element.push(added.clone()));
+            add(&|element| element.insert(0, added.clone()));
+        }
+        for member in 0..members(tree, position) {
+            add(&|element| drop(element.contents.remove(member)));
+            add(&|element| element.contents.insert(member, element.contents[member].clone()));
+        }
+    }
+    changed
+}
+
+/// How many parts the element at this position has.
+fn members(tree: &Element, position: usize) -> usize {
+    nth(&mut tree.clone(), position).map_or(0, |element| element.contents.len())
+}

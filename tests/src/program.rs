@@ -145,15 +145,3 @@ fn machine() -> Result<String, String> {
         Command::new("uname").arg("-m").output().map_err(|error| format!("uname does not run: {error}"))?;
     Ok(String::from_utf8_lossy(&output.stdout).trim().to_string())
 }
-
-/// Octet strings as a program of frames takes them: two octets of length, high octet first, and
-/// then the octets.
-pub fn frames(items: &[Vec<u8>]) -> Vec<u8> {
-    let mut input = Vec::new();
-    for item in items {
-        let length = u16::try_from(item.len()).expect("a frame has at most 65,535 octets");
-        input.extend(length.to_be_bytes());
-        input.extend(item);
-    }
-    input
-}

@@ -78,3 +78,31 @@ pub fn small_element(random: &mut Random) -> Element {
     let length = random.below(4);
     Element::primitive(crate::mutation::interesting_octet(random), &random.octets(length))
 }
+
+/// A tree of the tags that extension values are made of, so that some come close to one.
+pub fn value_like(most_depth: usize, random: &mut Random) -> Element {
+    if most_depth <= 1 || random.once_in(3) {
+        return value_like_leaf(random);
+    }
+    let count = *random.choose(&[0, 1, 1, 1, 2, 2, 3]);
+    let members: Vec<Element> = (0..count).map(|_| value_like(most_depth - 1, random)).collect();
+    match random.below(8) {
+        0 => Element::set_of(members),
+        1..=3 => Element::constructed(tag::context_constructed(random.below(6) as u8), members),
+        _ => Element::sequence(members),
+    }
+}
+
+fn value_like_leaf(random: &mut Random) -> Element {
+    let length = random.below(4);
+    let octets = random.octets(length);
+    match random.below(10) {
+        0 => Element::boolean(!random.once_in(4)),
+        1 => Element::integer(&minimal(octets)),
+        2 => bits(octets, random),
+        3 => Element::null(),
+        4 => Element::octet_string(&octets),
+        5..=7 => Element::object_identifier(&arcs(octets)),
+        _ => Element::primitive(tag::context(random.below(9) as u8), &octets),
+    }
+}

@@ -1,29 +1,22 @@
 //! Sound DER and SETs in order: the program `der_answers` against the reference, and both against
 //! verdicts by hand.
 
-use std::collections::HashSet;
-
 use comparison::amount::{cases, say};
+use comparison::answers::{Family, Frame, Question, Questioning, Tally};
 use comparison::correct::correct;
 use comparison::element::{long_length, shortest_length, tag, Element};
-use comparison::faults::catalogue;
 use comparison::hex;
 use comparison::malformed::{malformed, nested, with_every_field};
+use comparison::mutants::{outside_whole_and_mutated, whole_and_mutated};
 use comparison::mutation::{interesting_octet, mutate_element, mutate_octets};
-use comparison::outside;
 use comparison::profile::ALL;
-use comparison::program::{frames, programs_are_left_out, Program};
 use comparison::random::Random;
-use comparison::shrink::shrink;
 use comparison::trees::tree;
 use comparison::verdicts::{line_of, verdict_on_two, BY_HAND};
 use reference::soundness;
 
 /// An octet string and the verdict expected of it, where one was written down.
 type Judged = (Vec<u8>, String);
-
-/// So many frames go to one run of the program.
-const FRAMES_A_RUN: usize = 20_000;
 
 fn by_hand() -> Vec<Judged> {
     let mut judged: Vec<Judged> =
@@ -93,30 +86,24 @@ fn depths() -> Vec<Judged> {
     judged
 }
 
-/// A stream of octet strings without a verdict by hand, made one by one because a long run has
-/// many.
-struct Family {
-    kind: &'static str,
-    count: usize,
-    items: Box<dyn Iterator<Item = Vec<u8>>>,
-}
-
-fn family(kind: &'static str, count: usize, items: impl Iterator<Item = Vec<u8>> + 'static) -> Family {
-    Family { kind, count, items: Box::new(items.take(count)) }
+fn family(what: &'static str, items: impl IntoIterator<Item = Vec<u8>> + 'static) -> Family {
+    Family::of(what, items.into_iter().map(|octets| Question::open(Frame::of(octets))))
 }
 
 fn families() -> Vec<Family> {
-    let known = |kind, items: Vec<Vec<u8>>| family(kind, items.len(), items.into_iter());
     vec![
-        known("lists of no, one and two octets", up_to_two_octets()),
-        known("lists of three octets", three_octets()),
-        known("every identifier octet with chosen contents", every_identifier()),
-        known("malformed certificates", malformed_certificates()),
-        known("outside certificates, whole and mutated", from_outside()),
-        family("octets at random", cases(25_000), at_random()),
-        family("random trees", cases(12_000), trees("compared trees")),
-        family("random trees, mutated", cases(25_000), mutated_trees()),
-        family("certificates, whole and mutated", cases(9_000), certificates()),
+        family("lists of no, one and two octets", up_to_two_octets()),
+        family("lists of three octets", three_octets()),
+        family("every identifier octet with chosen contents", every_identifier()),
+        family("malformed certificates", malformed_certificates()),
+        family("outside certificates, whole and mutated", outside_whole_and_mutated("outside DER")),
+        family("octets at random", at_random().take(cases(25_000))),
+        family("random trees", trees("compared trees").take(cases(12_000))),
+        family("random trees, mutated", mutated_trees().take(cases(25_000))),
+        family(
+            "certificates, whole and mutated",
+            whole_and_mutated("certificates as DER").take(cases(9_000)),
+        ),
     ]
 }
 
@@ -192,21 +179,6 @@ fn malformed_certificates() -> Vec<Vec<u8>> {
     items
 }
 
-fn from_outside() -> Vec<Vec<u8>> {
-    let mut random = Random::for_purpose("outside DER");
-    let mut items = Vec::new();
-    let sources = [outside::certificates(), outside::revocation_lists(), outside::not_certificates()];
-    for item in sources.into_iter().flatten() {
-        items.push(item.octets.clone());
-        for _ in 0..3 {
-            let mut octets = item.octets.clone();
-            mutate_octets(&mut octets, &mut random);
-            items.push(octets);
-        }
-    }
-    items
-}
-
 fn at_random() -> impl Iterator<Item = Vec<u8>> {
     let mut random = Random::for_purpose("octets at random");
     std::iter::repeat_with(move || {
@@ -246,27 +218,12 @@ fn mutated_trees() -> impl Iterator<Item = Vec<u8>> {
     })
 }
 
-fn certificates() -> impl Iterator<Item = Vec<u8>> {
-    let mut random = Random::for_purpose("certificates as DER");
-    let faults = catalogue();
-    std::iter::repeat_with(move || {
-        let profile = *random.choose(ALL);
-        let mut pair = correct(profile, &mut random);
-        let fault = random.choose(&faults);
-        if fault.exists_in(profile) {
-            fault.apply(&mut pair, &mut random);
-        }
-        let mut tree = pair.certificate.element();
-        let change = random.below(3);
-        if change > 0 {
-            mutate_element(&mut tree, &mut random);
-        }
-        let mut octets = tree.octets();
-        if change > 1 {
-            mutate_octets(&mut octets, &mut random);
-        }
-        octets
-    })
+/// The verdict on two octets or fewer.
+fn verdict_on_short(octets: &[u8]) -> &'static str {
+    match octets {
+        [identifier, length] => verdict_on_two(*identifier, *length),
+        _ => "unsound at 0",
+    }
 }
 
 #[test]
@@ -277,11 +234,7 @@ fn the_reference_agrees_with_the_verdicts_by_hand() {
     }
     let short = up_to_two_octets();
     for octets in &short {
-        let verdict = match octets.as_slice() {
-            [identifier, length] => verdict_on_two(*identifier, *length),
-            _ => "unsound at 0",
-        };
-        assert_eq!(line_of(soundness(octets)), verdict, "{}", hex::text(octets));
+        assert_eq!(line_of(soundness(octets)), verdict_on_short(octets), "{}", hex::text(octets));
     }
     say("verdicts by hand, reference", judged.len() + short.len());
 }
@@ -295,75 +248,36 @@ fn random_trees_are_sound_as_they_were_built() {
     say("random trees built sound, reference", count);
 }
 
-/// The lines that the program writes for these frames.
-fn lines_of(program: &Program, items: &[Vec<u8>]) -> Vec<String> {
-    let written = String::from_utf8(program.run(&[], &frames(items))).expect("the program writes ASCII");
-    assert!(written.is_empty() || written.ends_with('\n'), "the last line ends in LF");
-    let lines: Vec<String> = written.split_terminator('\n').map(str::to_string).collect();
-    assert_eq!(lines.len(), items.len(), "one line for each frame");
-    lines
-}
-
-/// An input on which the program and the reference differ, with octets taken out while they still
-/// do.
-fn smallest_difference(program: &Program, octets: &[u8]) -> Vec<u8> {
-    shrink(octets, &mut |shorter| lines_of(program, &[shorter.to_vec()])[0] != line_of(soundness(shorter)))
+/// The line that is expected of the program.
+fn expected(frame: &Frame) -> Option<String> {
+    Some(line_of(soundness(&frame.octets)))
 }
 
 #[test]
 fn the_program_agrees_with_the_reference() {
-    if programs_are_left_out() {
-        println!("skipped: der_answers was not run, because DLO_NO_PROGRAMS=1 leaves the programs out");
-        return;
+    let Some(mut questioning) = Questioning::of("der_answers", expected) else { return };
+    let tally = questioning.ask(Family::of("by hand", verdicts_by_hand()));
+    say("frames with verdicts by hand", tally.frames());
+    let mut whole = Tally::default();
+    for family in families() {
+        let what = family.what;
+        let tally = questioning.ask(family);
+        say(&format!("frames: {what}"), tally.frames());
+        whole.add(&tally);
     }
-    let program = Program::find("der_answers").unwrap_or_else(|why| panic!("{why}"));
-    assert_eq!(program.run(&[], &[]), b"", "nothing is answered to no frame");
-    hold_to_verdicts(&program);
-    let mut frames = 0;
-    let mut verdicts = HashSet::new();
-    for mut family in families() {
-        loop {
-            let batch: Vec<Vec<u8>> = family.items.by_ref().take(FRAMES_A_RUN).collect();
-            if batch.is_empty() {
-                break;
-            }
-            frames += batch.len();
-            for (octets, line) in batch.iter().zip(lines_of(&program, &batch)) {
-                hold_to_reference(&program, family.kind, octets, &line);
-                verdicts.insert(line.split(' ').next().map(str::to_string));
-            }
-        }
-        say(&format!("frames: {}", family.kind), family.count);
-    }
+    questioning.finish();
+    let frames = whole.frames();
     say("frames in all", frames);
     assert!(frames >= 200_000, "only {frames} frames were compared");
-    assert_eq!(verdicts.len(), 3, "every kind of verdict was met");
+    assert_eq!(whole.answers(None).len(), 3, "every kind of verdict was met");
 }
 
-fn hold_to_reference(program: &Program, kind: &str, octets: &[u8], line: &str) {
-    let expected = line_of(soundness(octets));
-    if line != expected {
-        let smallest = smallest_difference(program, octets);
-        let (whole, smallest) = (hex::text(octets), hex::text(&smallest));
-        panic!(
-            "{kind}: the reference says {expected:?}, the program {line:?}\n  on {whole}\n  smallest: {smallest}"
-        );
-    }
-}
-
-fn hold_to_verdicts(program: &Program) {
-    let judged = by_hand();
-    let items: Vec<Vec<u8>> = judged.iter().map(|(octets, _)| octets.clone()).collect();
-    for ((octets, verdict), line) in judged.iter().zip(lines_of(program, &items)) {
-        assert_eq!(&line, verdict, "by hand, on {}", hex::text(octets));
-    }
-    let short = up_to_two_octets();
-    for (octets, line) in short.iter().zip(lines_of(program, &short)) {
-        let verdict = match octets.as_slice() {
-            [identifier, length] => verdict_on_two(*identifier, *length),
-            _ => "unsound at 0",
-        };
-        assert_eq!(line, verdict, "by hand, on {}", hex::text(octets));
-    }
-    say("frames with verdicts by hand", judged.len() + short.len());
+/// Everything with a verdict by hand, as questions.
+fn verdicts_by_hand() -> Vec<Question> {
+    let judged = by_hand().into_iter();
+    let short = up_to_two_octets().into_iter().map(|octets| {
+        let verdict = verdict_on_short(&octets).to_string();
+        (octets, verdict)
+    });
+    judged.chain(short).map(|(octets, verdict)| Question::with_line(Frame::of(octets), &verdict)).collect()
 }

@@ -17,7 +17,7 @@ pub enum Soundness {
     Unordered(usize),
 }
 
-fn is_sound(found: Soundness) -> bool
+pub fn is_sound(found: Soundness) -> bool
     ensures { λ r. ⌜ r ≡ isSound found ⌝ }
 {
     match found {

@@ -1,7 +1,7 @@
 -- Every example of the table holds, by computation. Assumes nothing.
 use mathlib.Core.Path.{_≡_, refl}
 use mathlib.Core.List.{map}
-use Rattle.examples.specs.Table.{Example, answer, table}
+use Rattle.examples.specs.Table.{Example, ascii, yearOf, isWithin, answer, table}
 use Rattle.octets.specs.Octets.{octetsFrom}
 use Rattle.octets.specs.Numbers.{numberFrom}
 use Rattle.der.specs.Header.{headOf, childrenOf, childrenBy}
@@ -10,7 +10,13 @@ use Rattle.der.specs.Integers.{integerOf}
 use Rattle.der.specs.Order.{octetsLe, ascendFrom}
 use Rattle.der.specs.Elements.{elementsOf}
 use Rattle.der.specs.Soundness.{first, soundness, stretchSoundness}
+use Rattle.times.specs.Calendar.{dateOk, secondsOf, daysOf, beforeYear, beforeMonth}
+use Rattle.times.specs.Validity.{momentOf}
+use Rattle.times.specs.Reads.{allDigits, digitsAndZ, dateAt, ifReal, timeOf}
+use Rattle.asn.specs.Grammar.{fits}
+use Rattle.asn.specs.Module.{certificate, keyUsage, judged, valueOf}
+use Rattle.asn.specs.Answers.{certificateVerdict, valueOk}
 
 pub examples : map (λ (e : Example). answer (e .asked)) table ≡ map (λ (e : Example). e .answered) table
-unfolding answer table stretchSoundness soundness first elementsOf elementOk primitiveOk arcsOk ascendFrom octetsLe headOf childrenOf childrenBy octetsFrom numberFrom integerOf
+unfolding answer table ascii yearOf isWithin stretchSoundness soundness first elementsOf elementOk primitiveOk arcsOk ascendFrom octetsLe headOf childrenOf childrenBy octetsFrom numberFrom integerOf timeOf ifReal dateAt digitsAndZ allDigits dateOk momentOf secondsOf daysOf beforeYear beforeMonth certificateVerdict valueOk fits certificate keyUsage judged valueOf
 examples = refl

@@ -1,29 +1,66 @@
 -- The examples of document 01, "Examples on the edge", that are marked P. Each row has the paper's number, what it asks and what it answers.
--- Rows P8 to P12, and P1's "6 at 0", join with the layers that they speak of: a new kind of question is a constructor and a line of `answer`.
+-- P8 and P12, and P11's rule 405, join with the layers that they speak of: a new kind of question is a constructor and a line of `answer`.
+use mathlib.Core.Bool.{Bool, true, false}
 use mathlib.Core.List.{List, [], _∷_}
 use Prim.Native.Nat.{ℕ}
+use Prim.Native.Char.{code}
+use Prim.Native.String.{String, [] as end, _∷_ as _then_}
 use lib.ListN.{length}
 use lib.IntN.{ℤ, pos, negsuc}
 use Rattle.der.specs.Header.{headOf}
 use Rattle.der.specs.Contents.{contentsOf}
 use Rattle.der.specs.Integers.{integerOf}
 use Rattle.der.specs.Soundness.{derSoundness, refusalNumber, refusalPlace}
+use Rattle.times.specs.Reads.{timeOf}
+use Rattle.times.specs.Validity.{dateOf, withinDaysOf}
+use Rattle.times.specs.declared.reading.Reading.{Reading}
+use Rattle.times.specs.declared.reading.Reading.the-variants.{Is, Bad}
+use Rattle.asn.specs.Answers.{certificateVerdict, refusalNumber as formNumber, refusalPlace as formPlace, valueOk}
 
 pub data Question : Type 0 where
   -- a side: is it refused by its encoding, and where?
   encoding : List ℕ → Question
+  -- a side that is sound: is it refused by its form, and where?
+  form : List ℕ → Question
   -- an INTEGER: which number is it?
   integer : List ℕ → Question
+  -- a UTCTime: which year is it in?
+  year : String → Question
+  -- two UTCTimes: is the second at most so many days after the first?
+  within : ℕ → String → String → Question
+  -- a slot of the table of extensions and a value: is it of its type?
+  value : ℕ → List ℕ → Question
 
 pub data Answer : Type 0 where
   -- a refusal by number and place; number 0 is none
   refusal : ℕ → ℕ → Answer
   number : ℤ → Answer
+  says : Bool → Answer
+  -- the question is about something that is none
+  senseless : Answer
+
+-- a text in ASCII as octets
+unfoldable pub ascii : String → List ℕ
+ascii end = []
+ascii (c then text) = code c ∷ ascii text
+
+unfoldable pub yearOf : Reading → Answer
+yearOf (Is t) = number (pos (dateOf t .year))
+yearOf Bad = senseless
+
+unfoldable pub isWithin : ℕ → Reading → Reading → Answer
+isWithin days (Is a) (Is b) = says (withinDaysOf (record { «not_before» = a; «not_after» = b }) days)
+isWithin days (Is a) Bad = senseless
+isWithin days Bad b = senseless
 
 -- what the definitions answer
 unfoldable pub answer : Question → Answer
 answer (encoding s) = refusal (refusalNumber (derSoundness s)) (refusalPlace (derSoundness s))
+answer (form s) = refusal (formNumber (certificateVerdict s)) (formPlace (certificateVerdict s))
 answer (integer s) = number (integerOf (contentsOf s (headOf s 0 (length s))))
+answer (year text) = yearOf (timeOf 23 (ascii text))
+answer (within days a b) = isWithin days (timeOf 23 (ascii a)) (timeOf 23 (ascii b))
+answer (value slot s) = says (valueOk s slot 0 (length s))
 
 pub record Example : Type 0 where
   pub paper : ℕ
@@ -36,9 +73,11 @@ P n q a = record { paper = n; asked = q; answered = a }
 abbrev sound : Answer
 sound = refusal 0 0
 
+-- P10: "keeps 111 for S" is within 395 days
 unfoldable pub table : List Example
 table =
     P 1 (encoding (0x30 ∷ 0x00 ∷ [])) sound
+    ∷ P 1 (form (0x30 ∷ 0x00 ∷ [])) (refusal 6 0)
     ∷ P 2 (encoding (0x30 ∷ 0x81 ∷ 0x00 ∷ [])) (refusal 4 0)
     ∷ P 3 (encoding (0x30 ∷ 0x80 ∷ 0x00 ∷ 0x00 ∷ [])) (refusal 4 0)
     ∷ P 4 (encoding (0x30 ∷ 0x00 ∷ 0x00 ∷ [])) (refusal 4 0)
@@ -49,4 +88,10 @@ table =
     ∷ P 5 (integer (0x02 ∷ 0x01 ∷ 0x80 ∷ [])) (number (negsuc 127))
     ∷ P 6 (encoding (0x30 ∷ 0x03 ∷ 0x01 ∷ 0x01 ∷ 0x01 ∷ [])) (refusal 4 2)
     ∷ P 7 (encoding (0x31 ∷ 0x06 ∷ 0x02 ∷ 0x01 ∷ 0x02 ∷ 0x02 ∷ 0x01 ∷ 0x01 ∷ [])) (refusal 5 0)
+    ∷ P 9 (year "491231235959Z") (number (pos 2049))
+    ∷ P 9 (year "500101000000Z") (number (pos 1950))
+    ∷ P 10 (within 395 "240101000000Z" "250130000000Z") (says true)
+    ∷ P 10 (within 395 "240101000000Z" "250130000001Z") (says false)
+    ∷ P 11 (value 4 (0x03 ∷ 0x02 ∷ 0x05 ∷ 0xA0 ∷ [])) (says true)
+    ∷ P 11 (value 4 (0x03 ∷ 0x02 ∷ 0x00 ∷ 0x80 ∷ [])) (says false)
     ∷ []

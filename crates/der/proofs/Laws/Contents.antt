@@ -1,5 +1,6 @@
 -- Contents by the tests that are made of single octets.
 --     boolean-law, integer-law, bits-law, null-law     contents of n octets
+--     last-law                                         the last octet of a stretch
 --     oid-none, oid-some                               an object identifier by its arcs
 --     arcs-bad, arcs-good, arcs-done                   its octets from the kth on
 --     holds-rare, holds-no                             whether a type holds elements
@@ -40,7 +41,7 @@ integer-law s body zero a b e f = refl
 integer-law s body (suc zero) a b e f = refl
 integer-law s body (suc (suc n)) a b e f = rw (ne-eqb (suc (suc n)) 0 (λ h. omega arith), ne-eqb (suc (suc n)) 1 (λ h. omega arith), e, f)
 
-last-law : (s : List ℕ) (a m : ℕ) → lastOf (octetAt s a) (octetsFrom s (a + 1) m) ≡ octetAt s (a + m)
+pub last-law : (s : List ℕ) (a m : ℕ) → lastOf (octetAt s a) (octetsFrom s (a + 1) m) ≡ octetAt s (a + m)
 unfolding octetsFrom
 last-law s a zero = rw add-zero
 last-law s a (suc m) =

@@ -6,6 +6,7 @@
 --     head-read                          a header in any form, by what is read of it
 --     head-start                         an element starts where it was looked for
 --     head-forward                       it ends after it starts, and within its container
+--     head-body                          its contents start after it does, and no later than it ends
 --     head-inside                        a sound one's contents start two octets later at least, and end where it ends
 --     head-constructed                   one whose tag says constructed is sound
 --     head-two                           in a side of less than 65,536 octets no length takes over two octets
@@ -116,6 +117,17 @@ if-forward good at end tag skip len k h = go (good && (tagOk tag && leb (at + (s
 pub head-forward : (s : List ℕ) (at end : ℕ) → at < end → (at < headOf s at end .end) × (headOf s at end .end ≤ end)
 unfolding headOf
 head-forward s at end h = if-forward (leb end (length s) && lengthOk s at) at end (octetAt s at) (headerSize s at) (lengthOf s at) (omega arith) h
+
+if-body : (good : Bool) (at end tag skip len : ℕ) → 1 ≤ skip → at < end → (at < headIf good at end tag skip len .body) × (headIf good at end tag skip len .body ≤ headIf good at end tag skip len .end)
+if-body good at end tag skip len k h = go (good && (tagOk tag && leb (at + (skip + len)) end))
+  where
+    go : (b : Bool) → (at < cond b (wholeHead at tag skip len) (brokenHead at end) .body) × (cond b (wholeHead at tag skip len) (brokenHead at end) .body ≤ cond b (wholeHead at tag skip len) (brokenHead at end) .end)
+    go true = (omega arith, omega arith)
+    go false = (h, omega arith)
+
+pub head-body : (s : List ℕ) (at end : ℕ) → at < end → (at < headOf s at end .body) × (headOf s at end .body ≤ headOf s at end .end)
+unfolding headOf
+head-body s at end h = if-body (leb end (length s) && lengthOk s at) at end (octetAt s at) (headerSize s at) (lengthOf s at) (omega arith) h
 
 -- ---- what a sound header says
 

@@ -1,0 +1,8 @@
+-- Laws of the definitions, by file.
+pub mod Leaf
+pub mod Rows
+pub mod Tables
+pub mod Steps
+pub mod Roots
+pub mod Answers
+pub mod Fields

@@ -1,0 +1,17 @@
+-- `asn::leaf::judged` meets its contract. Assumes nothing.
+use borrow.Author.Needs.{needs}
+use borrow.Author.Tests.{lt-ltb, le-ltb}
+use Rattle.asn.proofs.leaf.judged.Statement.{statement}
+use Rattle.asn.proofs.leaf.judged.Tie as tie
+
+returns : tie.Need-returns
+returns c = rw (lt-ltb _ _ (c .if1 .taken))
+
+primitive-ok-requires : tie.Need-primitive-ok-requires
+primitive-ok-requires c κs = search needs
+
+returns-2 : tie.Need-returns-2
+returns-2 c = rw (le-ltb _ _ (c .before .if1 .left)) (c .primitive-ok .ensures)
+
+pub judged-spec : {M : Type 1} → statement M
+judged-spec = tie.close (tie.spec returns primitive-ok-requires returns-2)

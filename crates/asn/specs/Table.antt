@@ -1,0 +1,155 @@
+-- The types and the runs of fields that the tables' rows stand for, counted from 0.
+use mathlib.Core.Bool.{cond}
+use mathlib.Core.Path.{_≡_}
+use mathlib.Core.List.{List, [], _∷_, _++_}
+use Prim.Native.Nat.{ℕ, _-_, _/_, _%_}
+use lib.ListN.{getD}
+use lib.Dec.{eqb, ltb}
+use Rattle.asn.specs.Grammar.{Test, Form, Inside, Slots}
+use Rattle.asn.specs.Grammar.Form.{none, alt}
+use Rattle.asn.specs.Grammar.Inside.{leaf, parts, set}
+use Rattle.asn.specs.Grammar.Slots.{done, one, opt, many}
+use Rattle.asn.specs.Module.{any, booleanTrue, integer, natural, bitString, namedBits, octetString, oid, sequenceOf, implicit, explicit, free, algorithmIdentifier, attributeTypeAndValue, relativeDistinguishedName, name, time, validity, subjectPublicKeyInfo, extension, extensions, version, tbsCertificate, certificate, generalName, generalNames, authorityKeyIdentifier, basicConstraints, subjectKeyIdentifier, keyUsage, extKeyUsage, policyQualifierInfo, policyInformation, certificatePolicies, accessDescription, authorityInfoAccess, distributionPointName, distributionPoint, cRLDistributionPoints, ocspNoCheck, judged}
+
+-- the types that have rows of their own, in the order of the rows
+unfoldable pub types : List Form
+types =
+    none
+    ∷ certificate
+    ∷ authorityKeyIdentifier
+    ∷ basicConstraints
+    ∷ subjectKeyIdentifier
+    ∷ keyUsage
+    ∷ extKeyUsage
+    ∷ certificatePolicies
+    ∷ generalNames
+    ∷ authorityInfoAccess
+    ∷ cRLDistributionPoints
+    ∷ ocspNoCheck
+    ∷ tbsCertificate
+    ∷ algorithmIdentifier
+    ∷ bitString
+    ∷ oid
+    ∷ any
+    ∷ explicit 0 version
+    ∷ integer
+    ∷ name
+    ∷ validity
+    ∷ subjectPublicKeyInfo
+    ∷ free 1
+    ∷ free 2
+    ∷ explicit 3 extensions
+    ∷ version
+    ∷ relativeDistinguishedName
+    ∷ attributeTypeAndValue
+    ∷ time
+    ∷ extensions
+    ∷ extension
+    ∷ booleanTrue
+    ∷ octetString
+    ∷ generalName
+    ∷ explicit 0 any
+    ∷ implicit 0 octetString
+    ∷ implicit 1 generalNames
+    ∷ implicit 2 integer
+    ∷ natural
+    ∷ policyInformation
+    ∷ sequenceOf policyQualifierInfo
+    ∷ policyQualifierInfo
+    ∷ accessDescription
+    ∷ distributionPoint
+    ∷ explicit 0 distributionPointName
+    ∷ implicit 1 namedBits
+    ∷ implicit 2 generalNames
+    ∷ distributionPointName
+    ∷ []
+
+-- a row for each alternative of a type, and one for the end
+abbrev pub alternatives : Form → List Form
+alternatives none = none ∷ []
+alternatives (alt i x f) = alt i x f ∷ alternatives f
+
+-- a row for each field, and one for the end
+abbrev pub fields : Slots → List Slots
+fields done = done ∷ []
+fields (one f p) = one f p ∷ fields p
+fields (opt f p) = opt f p ∷ fields p
+fields (many f p) = many f p ∷ fields p
+
+abbrev pub fieldsIn : Form → List Slots
+fieldsIn none = []
+fieldsIn (alt i (leaf t) f) = fieldsIn f
+fieldsIn (alt i (parts p) f) = fields p ++ fieldsIn f
+fieldsIn (alt i (set p) f) = fields p ++ fieldsIn f
+
+abbrev pub allForms : List Form → List Form
+allForms [] = []
+allForms (f ∷ fs) = alternatives f ++ allForms fs
+
+abbrev pub allSlots : List Form → List Slots
+allSlots [] = []
+allSlots (f ∷ fs) = fieldsIn f ++ allSlots fs
+
+-- the fields of a list that holds one element alone
+abbrev pub alone : Form → Slots
+alone f = one f done
+
+abbrev pub lists : List Form → List Slots
+lists [] = []
+lists (f ∷ fs) = alone f ∷ done ∷ lists fs
+
+-- the rows of fields: first those of a list of no type, then those of the types, and last those of lists of one judged element
+unfoldable pub slotRows : List Slots
+slotRows = alone none ∷ done ∷ (allSlots types ++ lists judged)
+
+-- the type at a row, and the fields from a row on
+unfoldable pub formAt : ℕ → Form
+formAt n = getD (allForms types) n none
+
+unfoldable pub slotsAt : ℕ → Slots
+slotsAt k = getD slotRows k done
+
+-- the tests by their numbers
+abbrev pub testAt : ℕ → Test
+testAt n =
+    cond (eqb n 2) Test.integer
+    (cond (eqb n 3) Test.natural
+    (cond (eqb n 4) Test.version
+    (cond (eqb n 5) Test.yes-octet
+    (cond (eqb n 6) Test.oid
+    (cond (eqb n 7) Test.bits
+    (cond (eqb n 8) Test.named-bits
+    (cond (eqb n 9) Test.nothing
+    (cond (eqb n 10) Test.utc
+    (cond (eqb n 11) Test.generalized
+    Test.free)))))))))
+
+-- what a row says of the contents: below 12 the number of a test, and from there the row of the first field; 128 marks a SET
+abbrev pub insideOf : ℕ → Inside
+insideOf r =
+    cond (ltb (r % 128) 12) (leaf (testAt (r % 128)))
+    (cond (eqb (r / 128 % 2) 0) (parts (slotsAt (r % 128 - 12))) (set (slotsAt (r % 128 - 12))))
+
+-- what a row says, with the type of the next row
+abbrev pub formOf : ℕ → Form → Form
+formOf r f = cond (eqb (r % 128) 0) none (alt (r / 256) (insideOf r) f)
+
+-- what a field's row says, with the fields from the next row on
+abbrev pub slotsOf : ℕ → Slots → Slots
+slotsOf r p =
+    cond (eqb (r / 256) 0) done
+    (cond (eqb (r / 256) 1) (one (formAt (r % 256)) p)
+    (cond (eqb (r / 256) 2) (opt (formAt (r % 256)) p)
+    (many (formAt (r % 256)) p)))
+
+-- ---- tables that say so
+
+-- what the rows say, from the last to the first; `say` is what a row says, given what the next says, and `nil` what the end says
+abbrev pub said {ℓ} : {A : Type ℓ} → (ℕ → A → A) → A → List ℕ → List A
+said say nil [] = []
+said say nil (r ∷ rs) = say r (getD (said say nil rs) 0 nil) ∷ said say nil rs
+
+-- tables of rows that stand for the types and for their fields
+pub record Tables (rows slots : List ℕ) : Type 0 where
+  pub forms : said formOf none rows ≡ allForms types
+  pub fields : said slotsOf done slots ≡ slotRows
