@@ -12,20 +12,19 @@ const FRAMES_A_RUN: usize = 20_000;
 /// At most this many differences of a family are made small and written out.
 const SHOWN: usize = 3;
 
-/// What a program is asked: octets, and of what kind the question is where the program has several.
+/// The kind of a frame that asks whether its octets are sound DER.
+pub const ENCODING: u8 = 11;
+
+/// What the program is asked: of what kind the question is, and octets.
 #[derive(Clone, Debug, PartialEq, Eq)]
 pub struct Frame {
-    pub kind: Option<u8>,
+    pub kind: u8,
     pub octets: Vec<u8>,
 }
 
 impl Frame {
-    pub fn of(octets: Vec<u8>) -> Frame {
-        Frame { kind: None, octets }
-    }
-
     pub fn of_kind(kind: u8, octets: Vec<u8>) -> Frame {
-        Frame { kind: Some(kind), octets }
+        Frame { kind, octets }
     }
 
     /// The same question about other octets.
@@ -33,19 +32,16 @@ impl Frame {
         Frame { kind: self.kind, octets: octets.to_vec() }
     }
 
-    /// Writes the kind if there is one, two octets of length, high octet first, and then the octets.
+    /// Writes the kind, two octets of length, high octet first, and then the octets.
     fn write(&self, input: &mut Vec<u8>) {
         let length = u16::try_from(self.octets.len()).expect("a frame has at most 65,535 octets");
-        input.extend(self.kind);
+        input.push(self.kind);
         input.extend(length.to_be_bytes());
         input.extend(&self.octets);
     }
 
     pub fn shown(&self) -> String {
-        match self.kind {
-            Some(kind) => format!("kind {kind}, {}", hex::text(&self.octets)),
-            None => hex::text(&self.octets),
-        }
+        format!("kind {}, {}", self.kind, hex::text(&self.octets))
     }
 }
 
@@ -86,7 +82,7 @@ impl Family {
 /// How often each answer was met, by the kind of the frame and the first word of the line.
 #[derive(Clone, Debug, Default)]
 pub struct Tally {
-    met: BTreeMap<(Option<u8>, String), usize>,
+    met: BTreeMap<(u8, String), usize>,
 }
 
 impl Tally {
@@ -106,7 +102,7 @@ impl Tally {
     }
 
     /// The answers to frames of a kind, by their first words.
-    pub fn answers(&self, kind: Option<u8>) -> BTreeMap<&str, usize> {
+    pub fn answers(&self, kind: u8) -> BTreeMap<&str, usize> {
         let of_kind = self.met.iter().filter(|((given, _), _)| *given == kind);
         of_kind.map(|((_, word), count)| (word.as_str(), *count)).collect()
     }
@@ -210,10 +206,10 @@ mod tests {
     #[test]
     fn a_frame_is_its_kind_its_length_and_its_octets() {
         let mut input = Vec::new();
-        Frame::of(vec![7, 8]).write(&mut input);
+        Frame::of_kind(3, vec![7, 8]).write(&mut input);
         Frame::of_kind(9, vec![1; 0x102]).write(&mut input);
-        assert_eq!(input[..8], [0, 2, 7, 8, 9, 1, 2, 1]);
-        assert_eq!(input.len(), 4 + 3 + 0x102);
+        assert_eq!(input[..9], [3, 0, 2, 7, 8, 9, 1, 2, 1]);
+        assert_eq!(input.len(), 5 + 3 + 0x102);
     }
 
     #[test]
@@ -224,6 +220,6 @@ mod tests {
         tally.count(&Frame::of_kind(1, vec![]), "value");
         tally.add(&tally.clone());
         assert_eq!(tally.frames(), 6);
-        assert_eq!(tally.answers(Some(0)).into_iter().collect::<Vec<_>>(), [("unsound", 4)]);
+        assert_eq!(tally.answers(0).into_iter().collect::<Vec<_>>(), [("unsound", 4)]);
     }
 }

@@ -2,7 +2,7 @@
 //! extensions, every octet and every place worked out by hand.
 
 /// The kind of the frame (0 for a certificate, else the extension's number in the table), the
-/// octets, and the line that the program `asn_answers` owes.
+/// octets, and the line that the program `answers` owes.
 pub type ByHand = &'static [(u8, &'static str, &'static str)];
 
 pub const CERTIFICATES_BY_HAND: ByHand = &[

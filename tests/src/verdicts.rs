@@ -4,7 +4,7 @@
 
 use reference::Soundness;
 
-/// The line that the program `der_answers` writes for a verdict.
+/// The line that the program `answers` writes for a verdict.
 pub fn line_of(soundness: Soundness) -> String {
     match soundness {
         Soundness::Sound => "sound".to_string(),

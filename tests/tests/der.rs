@@ -1,8 +1,8 @@
-//! Sound DER and SETs in order: the program `der_answers` against the reference, and both against
+//! Sound DER and SETs in order: the program `answers` against the reference, and both against
 //! verdicts by hand.
 
 use comparison::amount::{cases, say};
-use comparison::answers::{Family, Frame, Question, Questioning, Tally};
+use comparison::answers::{Family, Frame, Question, Questioning, Tally, ENCODING};
 use comparison::correct::correct;
 use comparison::element::{long_length, shortest_length, tag, Element};
 use comparison::hex;
@@ -87,7 +87,7 @@ fn depths() -> Vec<Judged> {
 }
 
 fn family(what: &'static str, items: impl IntoIterator<Item = Vec<u8>> + 'static) -> Family {
-    Family::of(what, items.into_iter().map(|octets| Question::open(Frame::of(octets))))
+    Family::of(what, items.into_iter().map(|octets| Question::open(Frame::of_kind(ENCODING, octets))))
 }
 
 fn families() -> Vec<Family> {
@@ -255,7 +255,7 @@ fn expected(frame: &Frame) -> Option<String> {
 
 #[test]
 fn the_program_agrees_with_the_reference() {
-    let Some(mut questioning) = Questioning::of("der_answers", expected) else { return };
+    let Some(mut questioning) = Questioning::of("answers", expected) else { return };
     let tally = questioning.ask(Family::of("by hand", verdicts_by_hand()));
     say("frames with verdicts by hand", tally.frames());
     let mut whole = Tally::default();
@@ -269,7 +269,7 @@ fn the_program_agrees_with_the_reference() {
     let frames = whole.frames();
     say("frames in all", frames);
     assert!(frames >= 200_000, "only {frames} frames were compared");
-    assert_eq!(whole.answers(None).len(), 3, "every kind of verdict was met");
+    assert_eq!(whole.answers(ENCODING).len(), 3, "every kind of verdict was met");
 }
 
 /// Everything with a verdict by hand, as questions.
@@ -279,5 +279,8 @@ fn verdicts_by_hand() -> Vec<Question> {
         let verdict = verdict_on_short(&octets).to_string();
         (octets, verdict)
     });
-    judged.chain(short).map(|(octets, verdict)| Question::with_line(Frame::of(octets), &verdict)).collect()
+    judged
+        .chain(short)
+        .map(|(octets, verdict)| Question::with_line(Frame::of_kind(ENCODING, octets), &verdict))
+        .collect()
 }

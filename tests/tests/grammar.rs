@@ -1,4 +1,4 @@
-//! Certificates and extension values told from what is none: the program `asn_answers` against the
+//! Certificates and extension values told from what is none: the program `answers` against the
 //! reference, and both against what the encoder and the rules on paper say.
 
 use std::sync::OnceLock;
@@ -34,7 +34,7 @@ const MOST_OCTETS: usize = 8192;
 // What is expected of the program
 
 fn expected(frame: &Frame) -> Option<String> {
-    match frame.kind.expect("every frame has a kind") {
+    match frame.kind {
         CERTIFICATE => expected_of_certificate(&frame.octets),
         slot => expected_of_value(slot, &frame.octets),
     }
@@ -617,7 +617,7 @@ fn the_program_tells_values_as_the_reference_does() {
 /// Asks the program all questions of these lists, each made when its turn comes; nothing where the
 /// programs are left out.
 fn ask(lists: &[fn() -> Vec<Family>]) -> Option<Tally> {
-    let mut questioning = Questioning::of("asn_answers", expected)?;
+    let mut questioning = Questioning::of("answers", expected)?;
     let mut whole = Tally::default();
     for family in lists.iter().flat_map(|families| families()) {
         let what = family.what;
@@ -633,7 +633,7 @@ fn ask(lists: &[fn() -> Vec<Family>]) -> Option<Tally> {
 fn hold_tally(tally: Option<Tally>, kinds: std::ops::RangeInclusive<u8>, all: &[&str]) {
     let Some(tally) = tally else { return };
     for kind in kinds {
-        let answers = tally.answers(Some(kind));
+        let answers = tally.answers(kind);
         say(&format!("frames of kind {kind}: {answers:?}"), answers.values().sum());
         assert_eq!(answers.keys().copied().collect::<Vec<_>>(), all, "kind {kind}: answers met");
     }

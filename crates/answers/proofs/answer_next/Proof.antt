@@ -1,9 +1,9 @@
--- `asn_answers::answer_next` is safe and ends. Assumes nothing.
+-- `answers::answer_next` is safe and ends. Assumes nothing.
 use mathlib.Core.Path.{sym}
 use lib.Seq.{length-take-le}
 use borrow.Author.Needs.{needs}
-use Rattle.asn_answers.proofs.answer_next.Statement.{statement}
-use Rattle.asn_answers.proofs.answer_next.Tie as tie
+use Rattle.answers.proofs.answer_next.Statement.{statement}
+use Rattle.answers.proofs.answer_next.Tie as tie
 
 slice-aggregate-read-full : tie.Need-slice-aggregate-read-full
 slice-aggregate-read-full c = search needs

@@ -1,7 +1,8 @@
-// Answers, for each frame on standard input, whether its octets are a certificate, or an extension's value. A frame is
-// a kind, a length in two octets, the high one first, and that many octets. Kind 0 asks for a certificate and gets a
-// line `certificate`, `unsound at P`, `unordered at P` or `departs at P`; kind s, from 1 to 10, asks for the value of
-// the extension that rule 340+s judges, and gets `value` or `no value`. The input ends with its last whole frame.
+// Answers each frame on standard input with a line, for test benches. A frame is a kind, a length in two octets, the
+// high one first, and that many octets. Kind 0 asks for a certificate and gets `certificate`, `unsound at P`,
+// `unordered at P` or `departs at P`; kind s, from 1 to 10, asks for the value of the extension that rule 340+s judges,
+// and gets `value` or `no value`; kind 11 asks for sound DER and gets `sound`, `unsound at P` or `unordered at P`. The
+// input ends with its last whole frame.
 use asn::Verdict;
 use der::Soundness;
 
@@ -29,6 +30,16 @@ fn answer_certificate(octets: &[u8]) {
     }
 }
 
+fn answer_encoding(octets: &[u8]) {
+    match der::check_der(octets) {
+        Soundness::Sound => {
+            io::write_all(1, b"sound\n");
+        }
+        Soundness::Unsound(place) => say(b"unsound at ", place),
+        Soundness::Unordered(place) => say(b"unordered at ", place),
+    }
+}
+
 fn answer_value(octets: &[u8], slot: usize) {
     if asn::value_ok(octets, slot, 0, octets.len()) {
         io::write_all(1, b"value\n");
@@ -42,10 +53,10 @@ fn answer_frame(kind: u8, frame: &mut [u8]) -> bool {
     if io::read_full(0, frame) != frame.len() {
         return false;
     }
-    if kind == 0 {
-        answer_certificate(frame);
-    } else {
-        answer_value(frame, octets::wide(kind));
+    match kind {
+        0 => answer_certificate(frame),
+        11 => answer_encoding(frame),
+        _ => answer_value(frame, octets::wide(kind)),
     }
     true
 }

@@ -1,10 +1,10 @@
--- `asn_answers::answer_all` is safe and ends. The measure is the number of turns that are left. The invariant: the room keeps its length.
+-- `answers::answer_all` is safe and ends. The measure is the number of turns that are left. The invariant: the room keeps its length.
 -- Assumes nothing.
 use mathlib.Core.Path.{_≡_, refl, _∙_}
 use native.Mathlib.Omega.{arith}
 use lib.ListN.{length}
-use Rattle.asn_answers.proofs.answer_all.Statement.{statement}
-use Rattle.asn_answers.proofs.answer_all.Tie as tie
+use Rattle.answers.proofs.answer_all.Statement.{statement}
+use Rattle.answers.proofs.answer_all.Tie as tie
 
 abbrev Inv-loop : tie.InvT-loop
 Inv-loop room₀ turns₀ room turns = length room ≡ length room₀
