@@ -1,4 +1,4 @@
-// The walk over elements within elements, one for refusals 4 and 5: no header is read twice.
+// The walk over elements within elements, one for refusals 4 and 5: no header but the outermost is read twice.
 use crate::contents::element_ok;
 use crate::contents::is_constructed;
 use crate::header::Head;
@@ -6,7 +6,7 @@ use crate::header::head_any;
 use crate::header::head_at;
 use crate::order::may_follow;
 ghost use mathlib.Core.Path.{_≡_};
-ghost use Rattle.der.specs.Soundness.{isSound, andThen, inOrder, soundness, isSet, soundList, stretchSoundness, derSoundness};
+ghost use Rattle.der.specs.Soundness.{isSound, andThen, inOrder, soundness, soundList, stretchSoundness, derSoundness};
 ghost use Rattle.der.specs.Elements.{elementsOf};
 
 // What the walk finds. The places are starts: of the first faulty element (refusal 4); where none is faulty, of
