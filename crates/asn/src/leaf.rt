@@ -1,4 +1,5 @@
-// Contents that are no list of elements, by the number of their test. The test goes by the type, whatever the tag.
+// Contents that are no list of elements, by the number of their test. A type that DER has judged under its own tag is
+// tested under another alone.
 use times::Reading;
 ghost use mathlib.Core.Path.{_≡_};
 ghost use Prim.Native.Nat.{_/_, _%_, _^_};
@@ -55,7 +56,7 @@ fn time_ok(s: &[u8], tag: u8, body: usize, n: usize) -> bool
 }
 
 // A universal type under another tag than its own: with its own it was judged with all of DER.
-fn judged(s: &[u8], number: u8, tag: u8, body: usize, n: usize) -> bool
+fn universal_ok(s: &[u8], number: u8, tag: u8, body: usize, n: usize) -> bool
     ensures { λ r. ⌜ r ≡ (ltb tag 64 || primitiveOk number (octetsFrom (now (s .entry)) body n)) ⌝ }
 {
     if tag < 64 {
@@ -69,14 +70,14 @@ pub fn passes_test(s: &[u8], test: usize, tag: u8, body: usize, n: usize) -> boo
     ensures { λ r. ⌜ r ≡ passes (testAt test) tag (octetsFrom (now (s .entry)) body n) ⌝ }
 {
     match test {
-        2 => judged(s, 2, tag, body, n),
+        2 => universal_ok(s, 2, tag, body, n),
         3 => natural_ok(s, body, n),
         4 => version_ok(s, body, n),
         5 => true_ok(s, body, n),
-        6 => judged(s, 6, tag, body, n),
-        7 => judged(s, 3, tag, body, n),
+        6 => universal_ok(s, 6, tag, body, n),
+        7 => universal_ok(s, 3, tag, body, n),
         8 => named_ok(s, body, n),
-        9 => judged(s, 5, tag, body, n),
+        9 => universal_ok(s, 5, tag, body, n),
         10 => time_ok(s, 23, body, n),
         11 => time_ok(s, 24, body, n),
         _ => true,

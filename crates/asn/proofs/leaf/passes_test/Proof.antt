@@ -8,8 +8,8 @@ use Rattle.asn.proofs.Laws.Leaf.{test-other}
 use Rattle.asn.proofs.leaf.passes_test.Statement.{statement}
 use Rattle.asn.proofs.leaf.passes_test.Tie as tie
 
-judged-requires : tie.Need-judged-requires
-judged-requires c κs = search needs
+universal-ok-requires : tie.Need-universal-ok-requires
+universal-ok-requires c κs = search needs
 
 natural-ok-requires : tie.Need-natural-ok-requires
 natural-ok-requires c κs = search needs
@@ -20,17 +20,17 @@ version-ok-requires c κs = search needs
 true-ok-requires : tie.Need-true-ok-requires
 true-ok-requires c κs = search needs
 
-judged-requires-2 : tie.Need-judged-requires-2
-judged-requires-2 c κs = search needs
+universal-ok-requires-2 : tie.Need-universal-ok-requires-2
+universal-ok-requires-2 c κs = search needs
 
-judged-requires-3 : tie.Need-judged-requires-3
-judged-requires-3 c κs = search needs
+universal-ok-requires-3 : tie.Need-universal-ok-requires-3
+universal-ok-requires-3 c κs = search needs
 
 named-ok-requires : tie.Need-named-ok-requires
 named-ok-requires c κs = search needs
 
-judged-requires-4 : tie.Need-judged-requires-4
-judged-requires-4 c κs = search needs
+universal-ok-requires-4 : tie.Need-universal-ok-requires-4
+universal-ok-requires-4 c κs = search needs
 
 time-ok-requires : tie.Need-time-ok-requires
 time-ok-requires c κs = search needs
@@ -40,7 +40,7 @@ time-ok-requires-2 c κs = search needs
 
 returns : tie.Need-returns
 unfolding primitiveOk
-returns c = rw (c .before .match .keys1) (c .judged .ensures)
+returns c = rw (c .before .match .keys1) (c .universal-ok .ensures)
 
 returns-2 : tie.Need-returns-2
 returns-2 c = rw (c .before .match .keys2) (c .natural-ok .ensures)
@@ -53,18 +53,18 @@ returns-4 c = rw (c .before .match .keys4) (c .true-ok .ensures)
 
 returns-5 : tie.Need-returns-5
 unfolding primitiveOk
-returns-5 c = rw (c .before .match .keys5) (c .judged2 .ensures)
+returns-5 c = rw (c .before .match .keys5) (c .universal-ok2 .ensures)
 
 returns-6 : tie.Need-returns-6
 unfolding primitiveOk
-returns-6 c = rw (c .before .match .keys6) (c .judged3 .ensures)
+returns-6 c = rw (c .before .match .keys6) (c .universal-ok3 .ensures)
 
 returns-7 : tie.Need-returns-7
 returns-7 c = rw (c .before .match .keys7) (c .named-ok .ensures)
 
 returns-8 : tie.Need-returns-8
 unfolding primitiveOk
-returns-8 c = rw (c .before .match .keys8) (c .judged4 .ensures)
+returns-8 c = rw (c .before .match .keys8) (c .universal-ok4 .ensures)
 
 returns-9 : tie.Need-returns-9
 returns-9 c = rw (c .before .match .keys9) (c .time-ok .ensures)
@@ -82,14 +82,14 @@ pub passes-test-spec : {M : Type 1} → statement M
 passes-test-spec =
     tie.close
     (tie.spec
-    judged-requires
+    universal-ok-requires
     natural-ok-requires
     version-ok-requires
     true-ok-requires
-    judged-requires-2
-    judged-requires-3
+    universal-ok-requires-2
+    universal-ok-requires-3
     named-ok-requires
-    judged-requires-4
+    universal-ok-requires-4
     time-ok-requires
     time-ok-requires-2
     returns
