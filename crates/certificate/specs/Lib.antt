@@ -1,0 +1,3 @@
+-- What an accepted certificate says: its fields, its key.
+pub mod Members
+pub mod Key

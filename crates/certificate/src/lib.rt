@@ -1,0 +1,9 @@
+// What an accepted certificate says: where its fields are, and what the rules ask of more than one of them.
+mod key;
+mod members;
+
+pub use key::Key;
+pub use key::KeyKind;
+pub use key::key_of;
+pub use members::after;
+pub use members::first_in;
