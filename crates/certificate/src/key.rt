@@ -43,6 +43,10 @@ pub fn key_of(s: &[u8], key: Head) -> Key
         algorithm: algorithm,
         parameters: after(s, identifier, algorithm.end),
         bits: after(s, algorithm, key.end),
-        kind: kind_of(s, identifier.body, octets::minus(identifier.end, identifier.body)),
+        kind: kind_of(
+            s,
+            identifier.body,
+            octets::minus(identifier.end, identifier.body),
+        ),
     }
 }
