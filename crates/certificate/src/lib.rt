@@ -1,8 +1,15 @@
 // What an accepted certificate says: where its fields are, and what the rules ask of more than one of them.
+mod extensions;
 mod fields;
 mod key;
 mod members;
 
+pub use extensions::Extension;
+pub use extensions::extension_of;
+pub use extensions::is_period;
+pub use extensions::same_identifier;
+pub use extensions::seen_before;
+pub use extensions::slot_of;
 pub use fields::Certificate;
 pub use fields::read;
 pub use key::Key;
