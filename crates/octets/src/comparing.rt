@@ -68,3 +68,13 @@ pub fn equals(s: &[u8], at: usize, n: usize, text: &[u8]) -> bool
     }
     false
 }
+
+// Whether the n octets from a on in s are the m octets from b on in t.
+pub fn same_stretch(s: &[u8], a: usize, n: usize, t: &[u8], b: usize, m: usize) -> bool
+    ensures { λ r. ⌜ r ≡ sameBy exactly (octetsFrom (now (s .entry)) a n) (octetsFrom (now (t .entry)) b m) ⌝ }
+{
+    if n == m {
+        return same(s, a, t, b, n);
+    }
+    false
+}

@@ -6,6 +6,7 @@ mod reading;
 pub use comparing::equals;
 pub use comparing::same;
 pub use comparing::same_ignoring_case;
+pub use comparing::same_stretch;
 pub use places::Place;
 pub use reading::fits;
 pub use reading::minus;

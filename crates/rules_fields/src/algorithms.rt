@@ -22,12 +22,14 @@ fn is_sha256_rsa(s: &[u8], algorithm: Head) -> bool
 fn same_element(s: &[u8], a: Head, t: &[u8], b: Head) -> bool
     ensures { λ r. ⌜ r ≡ sameBy exactly (octetsOf (now (s .entry)) a) (octetsOf (now (t .entry)) b) ⌝ }
 {
-    let n = octets::minus(a.end, a.at);
-    let m = octets::minus(b.end, b.at);
-    if n == m {
-        return octets::same(s, a.at, t, b.at, n);
-    }
-    false
+    octets::same_stretch(
+        s,
+        a.at,
+        octets::minus(a.end, a.at),
+        t,
+        b.at,
+        octets::minus(b.end, b.at),
+    )
 }
 
 pub fn algorithms_and_name(

@@ -1,11 +1,9 @@
+-- `rules_fields::field_rules` meets its contract. Assumes nothing.
 use borrow.Author.Needs.{needs}
+use Rattle.report.proofs.Laws.Putting.{_⨾_}
+use Rattle.rules_fields.specs.Rules.{fieldFindings}
 use Rattle.rules_fields.proofs.field_rules.Statement.{statement}
 use Rattle.rules_fields.proofs.field_rules.Tie as tie
-use Rattle.rules_fields.proofs.field_rules.Reads as reads
-use Rattle.rules_fields.proofs.field_rules.Lts as lts
-use Rattle.rules_fields.proofs.algorithms.algorithms_and_name.Reads as algorithms-and-name-reads
-use Rattle.rules_fields.proofs.period.validity.Reads as validity-reads
-use Rattle.rules_fields.proofs.version.version_and_serial.Reads as version-and-serial-reads
 
 version-and-serial-requires : tie.Need-version-and-serial-requires
 version-and-serial-requires c κs = search needs
@@ -20,7 +18,12 @@ same-length : tie.Need-same-length
 same-length c = search needs
 
 returns : tie.Need-returns
-returns c = ?
+unfolding fieldFindings
+returns c =
+    let third = c .before .before in
+    let second = third .before .before .before .before in
+    let first = second .before .before .before .before in
+    first .version-and-serial .ensures ⨾ (second .algorithms-and-name .ensures ⨾ third .validity .ensures)
 
 pub field-rules-spec : {M : Type 1} → statement M
 field-rules-spec =

@@ -1,11 +1,9 @@
+-- `rules_fields::algorithms::algorithms_and_name` meets its contract. Assumes nothing.
 use borrow.Author.Needs.{needs}
+use Rattle.report.proofs.Laws.Putting.{_⨾_}
+use Rattle.rules_fields.specs.Algorithms.{algorithmsAndName}
 use Rattle.rules_fields.proofs.algorithms.algorithms_and_name.Statement.{statement}
 use Rattle.rules_fields.proofs.algorithms.algorithms_and_name.Tie as tie
-use Rattle.rules_fields.proofs.algorithms.algorithms_and_name.Reads as reads
-use Rattle.rules_fields.proofs.algorithms.algorithms_and_name.Lts as lts
-use Rattle.report.proofs.note.Reads as note-reads
-use Rattle.rules_fields.proofs.algorithms.is_sha256_rsa.Reads as is-sha256-rsa-reads
-use Rattle.rules_fields.proofs.algorithms.same_element.Reads as same-element-reads
 
 is-sha256-rsa-requires : tie.Need-is-sha256-rsa-requires
 is-sha256-rsa-requires c κs = search needs
@@ -35,7 +33,17 @@ same-length : tie.Need-same-length
 same-length c = search needs
 
 returns : tie.Need-returns
-returns c = ?
+unfolding algorithmsAndName
+returns c =
+    let fourth = c .before .before in
+    let third = fourth .before .before .before .before in
+    let second = third .before .before .before .before in
+    let first = second .before .before .before .before in
+    let judged = first .before .before in
+    let differ = judged .before in
+    let outer = differ .before in
+    rw (← judged .same-element2 .ensures, ← differ .same-element .ensures, ← outer .is-sha256-rsa2 .ensures, ← outer .before .is-sha256-rsa .ensures)
+    (first .note .ensures ⨾ (second .note2 .ensures ⨾ (third .note3 .ensures ⨾ fourth .note4 .ensures)))
 
 pub algorithms-and-name-spec : {M : Type 1} → statement M
 algorithms-and-name-spec =

@@ -1,14 +1,9 @@
+-- `rules_fields::version::version_and_serial` meets its contract. Assumes nothing.
 use borrow.Author.Needs.{needs}
+use Rattle.report.proofs.Laws.Putting.{_⨾_}
+use Rattle.rules_fields.specs.Version.{versionAndSerial}
 use Rattle.rules_fields.proofs.version.version_and_serial.Statement.{statement}
 use Rattle.rules_fields.proofs.version.version_and_serial.Tie as tie
-use Rattle.rules_fields.proofs.version.version_and_serial.Reads as reads
-use Rattle.rules_fields.proofs.version.version_and_serial.Lts as lts
-use Rattle.profiles.proofs.is_server.Reads as is-server-reads
-use Rattle.report.proofs.note.Reads as note-reads
-use Rattle.rules_fields.proofs.version.is_above_zero.Reads as is-above-zero-reads
-use Rattle.rules_fields.proofs.version.is_v3.Reads as is-v3-reads
-use Rattle.rules_fields.proofs.version.serial_length.Reads as serial-length-reads
-use Rattle.rules_fields.proofs.version.version_place.Reads as version-place-reads
 
 serial-length-requires : tie.Need-serial-length-requires
 serial-length-requires c κs = search needs
@@ -41,7 +36,18 @@ same-length : tie.Need-same-length
 same-length c = search needs
 
 returns : tie.Need-returns
-returns c = ?
+unfolding versionAndSerial
+returns c =
+    let fourth = c .before .before in
+    let third = fourth .before .before .before .before in
+    let second = third .before .before .before .before in
+    let first = second .before .before .before .before in
+    let judged = first .before .before in
+    let sign = judged .before in
+    let version = sign .before in
+    let place = version .before in
+    rw (← judged .is-server .ensures, ← sign .is-above-zero .ensures, ← version .is-v3 .ensures, ← place .version-place .ensures, ← place .before .serial-length .ensures)
+    (first .note .ensures ⨾ (second .note2 .ensures ⨾ (third .note3 .ensures ⨾ fourth .note4 .ensures)))
 
 pub version-and-serial-spec : {M : Type 1} → statement M
 version-and-serial-spec =
