@@ -45,6 +45,10 @@ mayBeSet allowed k = eqb k digitalSignature || bitAt (allowed ∷ []) k
 abbrev pub otherBit : List ℕ → ℕ → ℕ → Bool
 otherBit bits allowed k = not (mayBeSet allowed k) && bitAt bits k
 
+-- the last bit of a is set, and that of b is not
+abbrev pub oddAlone : ℕ → ℕ → Bool
+oddAlone a b = not (eqb (b % 2) 1) && eqb (a % 2) 1
+
 -- some bit is set that may not be
 unfoldable pub otherBits : List ℕ → ℕ → Bool
 otherBits bits allowed = anyBelow (otherBit bits allowed) (8 * length bits)

@@ -3,11 +3,9 @@
 use der::Head;
 ghost use mathlib.Core.Path.{_≡_};
 ghost use mathlib.Core.List.{[], _∷_};
-ghost use mathlib.Core.Bool.{_&&_, not};
-ghost use Prim.Native.Nat.{_+_, _-_, _%_};
-ghost use lib.Dec.{eqb};
+ghost use Prim.Native.Nat.{_+_, _-_};
 ghost use Rattle.octets.specs.Octets.{octetsFrom};
-ghost use Rattle.values.specs.Usage.{bitOctets, bitAt, anyBelow, anySet, unsignedOf, otherBit, otherBits, otherUsage};
+ghost use Rattle.values.specs.Usage.{bitOctets, bitAt, anyBelow, anySet, unsignedOf, otherBit, oddAlone, otherBits, otherUsage};
 
 // Whether rule 404 is broken.
 pub fn unsigned(s: &[u8], v: Head) -> bool
@@ -21,7 +19,7 @@ pub fn unsigned(s: &[u8], v: Head) -> bool
 
 // Whether the last bit of a is set, and that of b is not.
 fn odd_alone(a: u8, b: u8) -> bool
-    ensures { λ r. ⌜ r ≡ (not (eqb (b % 2) 1) && eqb (a % 2) 1) ⌝ }
+    ensures { λ r. ⌜ r ≡ oddAlone a b ⌝ }
 {
     !(b % 2 == 1) & (a % 2 == 1)
 }

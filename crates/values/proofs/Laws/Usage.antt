@@ -14,7 +14,7 @@ use native.Mathlib.Omega.{arith}
 use lib.ListN.{length}
 use lib.Dec.{ltb, eqb}
 use borrow.Author.Tests.{le-ltb, ne-eqb, eqb-true, eqb-false}
-use Rattle.values.specs.Usage.{bitOctets, bitAt, anyBelow, anySet, otherBit, otherBits}
+use Rattle.values.specs.Usage.{bitOctets, bitAt, anyBelow, anySet, otherBit, oddAlone, otherBits}
 use Rattle.octets.specs.Octets.{octetAt, octetsFrom}
 use Rattle.octets.proofs.Laws.Octets.{octets-done, octets-next}
 use Rattle.octets.proofs.Laws.Tests.{and-l, and-r}
@@ -68,11 +68,10 @@ all-octets = refl
 pub octet-bits : (b : ℕ) → b < 256 → not (eqb b 0) ≡ anyBelow (bitAt (b ∷ [])) 8
 octet-bits b h = same-true (not (eqb b 0)) (anyBelow (bitAt (b ∷ [])) 8) (all-below (λ b. same (not (eqb b 0)) (anyBelow (bitAt (b ∷ [])) 8)) 256 b all-octets h)
 
--- each weight from 1 to 64, the low bit first; bit 0, of weight 128, may be set
-pub first-bits : (b allowed : ℕ) (x1 x2 x4 x8 x16 x32 x64 : Bool) → x1 ≡ (not (eqb (allowed % 2) 1) && eqb (b % 2) 1) → x2 ≡ (not (eqb (allowed / 2 % 2) 1) && eqb (b / 2 % 2) 1) → x4 ≡ (not (eqb (allowed / 4 % 2) 1) && eqb (b / 4 % 2) 1) → x8 ≡ (not (eqb (allowed / 8 % 2) 1) && eqb (b / 8 % 2) 1) → x16 ≡ (not (eqb (allowed / 16 % 2) 1) && eqb (b / 16 % 2) 1) → x32 ≡ (not (eqb (allowed / 32 % 2) 1) && eqb (b / 32 % 2) 1) → x64 ≡ (not (eqb (allowed / 64 % 2) 1) && eqb (b / 64 % 2) 1) → (x1 || (x2 || (x4 || (x8 || (x16 || (x32 || x64)))))) ≡ anyBelow (otherBit (b ∷ []) allowed) 8
+-- the bits by their weight, from 1 to 64; bit 0, of weight 128, may be set
+pub first-bits : (b allowed : ℕ) → (oddAlone b allowed || (oddAlone (b / 2) (allowed / 2) || (oddAlone (b / 4) (allowed / 4) || (oddAlone (b / 8) (allowed / 8) || (oddAlone (b / 16) (allowed / 16) || (oddAlone (b / 32) (allowed / 32) || oddAlone (b / 64) (allowed / 64))))))) ≡ anyBelow (otherBit (b ∷ []) allowed) 8
 unfolding anyBelow
-first-bits b allowed x1 x2 x4 x8 x16 x32 x64 e1 e2 e4 e8 e16 e32 e64 =
-    rw (div-one b, div-one allowed, or-false (not (eqb (allowed / 64 % 2) 1) && eqb (b / 64 % 2) 1), e1, e2, e4, e8, e16, e32, e64)
+first-bits b allowed = rw (div-one b, div-one allowed, or-false (oddAlone (b / 64) (allowed / 64)))
 
 -- ---- the octets after the first
 

@@ -28,13 +28,10 @@ odd-alone-requires-7 c κs = search needs
 returns : tie.Need-returns
 returns c =
     let c6 = c .before in
-    let c5 = c6 .before in
-    let c4 = c5 .before in
-    let c3 = c4 .before in
-    let c2 = c3 .before in
-    let c1 = c2 .before in
-    let a = c1 .before .args in
-    first-bits (a .bits) (a .allowed) (c1 .odd-alone .result) (c2 .odd-alone2 .result) (c3 .odd-alone3 .result) (c4 .odd-alone4 .result) (c5 .odd-alone5 .result) (c6 .odd-alone6 .result) (c .odd-alone7 .result) (c1 .odd-alone .ensures) (c2 .odd-alone2 .ensures) (c3 .odd-alone3 .ensures) (c4 .odd-alone4 .ensures) (c5 .odd-alone5 .ensures) (c6 .odd-alone6 .ensures) (c .odd-alone7 .ensures)
+    let c4 = c6 .before .before in
+    let c2 = c4 .before .before in
+    let a = c2 .before .before .args in
+    rw (c2 .before .odd-alone .ensures, c2 .odd-alone2 .ensures, c4 .before .odd-alone3 .ensures, c4 .odd-alone4 .ensures, c6 .before .odd-alone5 .ensures, c6 .odd-alone6 .ensures, c .odd-alone7 .ensures) (first-bits (a .bits) (a .allowed))
 
 pub other-in-first-spec : {M : Type 1} → statement M
 other-in-first-spec =
