@@ -3,9 +3,9 @@
 use mathlib.Core.List.{List, [], _∷_, _++_, map}
 use mathlib.Core.Bool.{Bool, cond}
 use Prim.Native.Nat.{ℕ}
-use Rattle.der.specs.declared.header.Head.{Head}
 use Rattle.report.specs.declared.sink.Entry.{Entry}
 use Rattle.report.specs.Entries.{entryAt}
+use Rattle.der.specs.declared.header.Head.{Head}
 
 -- the items that a test picks, in their order
 unfoldable pub filter : (Head → Bool) → List Head → List Head
@@ -24,6 +24,10 @@ further rule name (h ∷ hs) = map (entryAt rule) hs
 -- "one X"
 abbrev pub one : ℕ → (Head → Bool) → Head → List Head → List Entry
 one rule isX name hs = further rule name (filter isX hs)
+
+-- a rule that is judged under a condition
+abbrev pub onlyIf : Bool → List Entry → List Entry
+onlyIf judged es = cond judged es []
 
 -- the lists of entries of several rules, one behind the other
 unfoldable pub joined : List (List Entry) → List Entry
