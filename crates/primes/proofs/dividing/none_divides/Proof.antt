@@ -1,0 +1,94 @@
+-- `primes::dividing::none_divides` meets its contract. Assumes nothing.
+use mathlib.Core.Path.{_≡_, refl, sym, _∙_}
+use Prim.Native.Nat.{_-_, _%_}
+use native.Mathlib.Omega.{arith}
+use native.Mathlib.Nat.{mod-one}
+use lib.ListN.{length, getD, drop}
+use borrow.Author.Needs.{needs}
+use Rattle.primes.specs.Primes.{freeOf}
+use Rattle.numbers.specs.Numbers.{number}
+use Rattle.primes.proofs.Laws.Primes.{products}
+use Rattle.primes.proofs.Laws.Residues.{row, free-bad, free-good, free-done}
+use Rattle.primes.proofs.dividing.none_divides.Statement.{statement}
+use Rattle.primes.proofs.dividing.none_divides.Tie as tie
+
+abbrev Inv-loop : tie.InvT-loop
+Inv-loop s body end primes products k₀ last₀ r₀ k last r = (freeOf primes (number s body end) ≡ freeOf (drop k primes) (number s body end)) × (r ≡ number s body end % last)
+
+abbrev μ-loop : tie.MeasureT-loop
+μ-loop s body end primes products k₀ last₀ r₀ k last r = length primes - k
+
+loop-holds : tie.Need-loop-holds Inv-loop μ-loop
+loop-holds c =
+    let a = c .before .before .before .args in
+    (refl, sym (mod-one (number (a .s .now) (a .body) (a .end))))
+
+mul-m : tie.Need-mul-m Inv-loop μ-loop
+mul-m c = record { fits = omega (arith, row (c .before .before .before .before .before .args .primes .now) (c .before .before .before .before .before .args .products .now) (c .before .before .before .before .before .pre) (c .before .loop .k) (c .loop-test .taken) .0) }
+
+shared-slice-read-m : tie.Need-shared-slice-read-m Inv-loop μ-loop
+shared-slice-read-m c = row (c .before .before .before .before .before .before .args .primes .now) (c .before .before .before .before .before .before .args .products .now) (c .before .before .before .before .before .before .pre) (c .before .before .loop .k) (c .before .loop-test .taken) .0
+
+renew-requires : tie.Need-renew-requires Inv-loop μ-loop
+renew-requires c κs =
+    let l = c .before .before in
+    let w = row (l .before .before .before .before .args .primes .now) (l .before .before .before .before .args .products .now) (l .before .before .before .before .pre) (l .loop .k) (c .before .loop-test .taken) .1 in
+    (w .least, w .most, l .loop .inv .1)
+
+mul-if1 : tie.Need-mul-if1 Inv-loop μ-loop
+mul-if1 c = search needs
+
+shared-slice-read-if1 : tie.Need-shared-slice-read-if1 Inv-loop μ-loop
+shared-slice-read-if1 c = search needs
+
+cast-if1 : tie.Need-cast-if1 Inv-loop μ-loop
+cast-if1 c = record { fits = omega (arith, c .shared-slice-known5 .given (c .before .before .before .before .loop .k)) }
+
+rem-if1 : tie.Need-rem-if1 Inv-loop μ-loop
+rem-if1 c =
+    let l = c .before .before .before .before in
+    row (l .before .before .before .before .args .primes .now) (l .before .before .before .before .args .products .now) (l .before .before .before .before .pre) (l .loop .k) (c .before .before .before .loop-test .taken) .1 .some
+
+returns : tie.Need-returns Inv-loop μ-loop
+returns c =
+    let l = c .before .before .before .before .before in
+    let a = l .before .before .before .before .args in
+    sym (l .loop .inv .0 ∙ free-bad (a .primes .now) (l .loop .k) (getD (a .products .now) (l .loop .k) 0) (number (a .s .now) (a .body) (a .end)) (c .before .before .renew .result) (c .before .before .before .before .loop-test .taken) (row (a .primes .now) (a .products .now) (l .before .before .before .before .pre) (l .loop .k) (c .before .before .before .before .loop-test .taken) .1) (c .before .before .renew .ensures) (c .if1 .taken))
+
+add-k : tie.Need-add-k Inv-loop μ-loop
+add-k c = search needs
+
+loop-less : tie.Need-loop-less Inv-loop μ-loop
+loop-less c = omega arith
+
+loop-again : tie.Need-loop-again Inv-loop μ-loop
+loop-again c =
+    let l = c .before .before .before .before .before in
+    let a = l .before .before .before .before .args in
+    (l .loop .inv .0 ∙ free-good (a .primes .now) (l .loop .k) (getD (a .products .now) (l .loop .k) 0) (number (a .s .now) (a .body) (a .end)) (c .before .before .renew .result) (c .before .before .before .before .loop-test .taken) (row (a .primes .now) (a .products .now) (l .before .before .before .before .pre) (l .loop .k) (c .before .before .before .before .loop-test .taken) .1) (c .before .before .renew .ensures) (c .if1 .left), c .before .before .renew .ensures)
+
+returns-2 : tie.Need-returns-2 Inv-loop μ-loop
+returns-2 c =
+    let l = c .before in
+    let a = l .before .before .before .before .args in
+    sym (l .loop .inv .0 ∙ free-done (a .primes .now) (l .loop .k) (number (a .s .now) (a .body) (a .end)) (c .loop-test .left))
+
+pub none-divides-spec : {M : Type 1} → statement M
+none-divides-spec =
+    tie.close
+    (tie.spec
+    Inv-loop
+    μ-loop
+    loop-holds
+    mul-m
+    shared-slice-read-m
+    renew-requires
+    mul-if1
+    shared-slice-read-if1
+    cast-if1
+    rem-if1
+    returns
+    add-k
+    loop-less
+    loop-again
+    returns-2)

@@ -1,0 +1,2 @@
+-- What the tables say, computed.
+pub mod Examples

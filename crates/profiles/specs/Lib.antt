@@ -1,0 +1,3 @@
+-- The profiles and their tables.
+pub mod Fields
+pub mod Extensions
