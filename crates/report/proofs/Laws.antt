@@ -5,3 +5,4 @@ pub mod Forms
 pub mod Members
 pub mod Order
 pub mod Reading
+pub mod First
