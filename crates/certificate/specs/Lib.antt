@@ -3,3 +3,4 @@ pub mod Members
 pub mod Fields
 pub mod Key
 pub mod Extensions
+pub mod Slots

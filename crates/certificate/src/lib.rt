@@ -3,6 +3,7 @@ mod extensions;
 mod fields;
 mod key;
 mod members;
+mod slots;
 
 pub use extensions::Extension;
 pub use extensions::extension_of;
@@ -20,3 +21,8 @@ pub use members::first_in;
 pub use members::inside_tag;
 pub use members::missing;
 pub use members::past;
+pub use slots::Value;
+pub use slots::first_extensions;
+pub use slots::good_values;
+pub use slots::number_at;
+pub use slots::value_at;
