@@ -1,8 +1,17 @@
-// Rule 120: a common name that is one of the dNSNames.
+// dNSNames, and rule 120: a common name that is one of them.
+use der::Head;
 ghost use mathlib.Core.Path.{_≡_};
 ghost use Rattle.octets.specs.Octets.{octetsFrom};
 ghost use Rattle.der.specs.Header.{childrenOf};
-ghost use Rattle.names.specs.Names.{someNamed};
+ghost use Rattle.names.specs.Names.{isDnsName, someNamed};
+
+// Rule 412 is broken by each name for which this says no.
+pub fn is_dns_name(h: Head) -> bool
+    ensures { λ r. ⌜ r ≡ isDnsName h ⌝ }
+{
+    let tag = h.tag;
+    tag == 130
+}
 
 // Whether the n octets from a on are, ASCII case ignored, the contents of at least one dNSName among the names
 // from `at` to `end`. The names are left at the first match, and a name at its first mismatch.
