@@ -21,7 +21,7 @@ fn fold(letters: Letters, b: u8) -> u8
 }
 
 // A to Z become a to z.
-fn lower_case(b: u8) -> u8
+pub fn lower_case(b: u8) -> u8
     ensures { λ r. ⌜ r ≡ lowerCase b ⌝ }
 {
     if b < 65 {

@@ -4,6 +4,7 @@ mod places;
 mod reading;
 
 pub use comparing::equals;
+pub use comparing::lower_case;
 pub use comparing::same;
 pub use comparing::same_ignoring_case;
 pub use comparing::same_stretch;
