@@ -1,0 +1,33 @@
+-- `attributes::types::type_arc` meets its contract. Assumes nothing.
+use mathlib.Core.Path.{sym, _∙_}
+use borrow.Author.Needs.{needs}
+use Rattle.attributes.proofs.Laws.Types.{arc-read}
+use Rattle.attributes.proofs.types.type_arc.Statement.{statement}
+use Rattle.attributes.proofs.types.type_arc.Tie as tie
+
+octet-requires : tie.Need-octet-requires
+octet-requires c κs = search needs
+
+octet-past-requires : tie.Need-octet-past-requires
+octet-past-requires c κs = search needs
+
+octet-past-requires-2 : tie.Need-octet-past-requires-2
+octet-past-requires-2 c κs = search needs
+
+returns : tie.Need-returns
+returns c =
+    let p = c .before .before in
+    let q = p .before in
+    let a = q .before .before .args in
+    c .octet-past2 .ensures ∙ rw (c .before .if1 .taken) at (arc-read (a .s .now) (a .body) (a .n) (q .octet .result) (p .octet-past .result) (q .octet .ensures) (p .octet-past .ensures))
+
+returns-2 : tie.Need-returns-2
+returns-2 c =
+    let p = c .before in
+    let q = p .before in
+    let a = q .before .before .args in
+    rw (c .if1 .left) at (arc-read (a .s .now) (a .body) (a .n) (q .octet .result) (p .octet-past .result) (q .octet .ensures) (p .octet-past .ensures))
+
+pub type-arc-spec : {M : Type 1} → statement M
+type-arc-spec =
+    tie.close (tie.spec octet-requires octet-past-requires octet-past-requires-2 returns returns-2)

@@ -1,0 +1,33 @@
+// What an attribute is of, and its value.
+use der::Head;
+ghost use mathlib.Core.Path.{_≡_};
+ghost use Rattle.octets.specs.Octets.{octetsFrom};
+ghost use Rattle.attributes.specs.Types.{typeArc, arcOf, valueOf};
+
+// The arc below 2.5.4 that n octets of an OBJECT IDENTIFIER say, 0 where they say another.
+fn type_arc(s: &[u8], body: usize, n: usize) -> u8
+    ensures { λ r. ⌜ r ≡ typeArc (octetsFrom (now (s .entry)) body n) ⌝ }
+{
+    let first = octets::octet(s, body);
+    let second = octets::octet_past(s, body, 1);
+    if (n == 3) & ((first == 85) & (second == 4)) {
+        return octets::octet_past(s, body, 2);
+    }
+    0
+}
+
+// The arc of an attribute's type below 2.5.4, 0 where it has another type.
+pub fn arc_of(s: &[u8], h: Head) -> u8
+    ensures { λ r. ⌜ r ≡ arcOf (now (s .entry)) h ⌝ }
+{
+    let kind = der::head_at(s, h.body, h.end);
+    type_arc(s, kind.body, octets::minus(kind.end, kind.body))
+}
+
+// An attribute's value: the element after its type.
+pub fn value_of(s: &[u8], h: Head) -> Head
+    ensures { λ r. ⌜ r ≡ valueOf (now (s .entry)) h ⌝ }
+{
+    let kind = der::head_at(s, h.body, h.end);
+    der::head_at(s, kind.end, h.end)
+}

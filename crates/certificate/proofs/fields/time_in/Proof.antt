@@ -1,0 +1,21 @@
+-- `certificate::fields::time_in` meets its contract. Assumes nothing.
+use borrow.Author.Needs.{needs}
+use Rattle.certificate.specs.Fields.{timeIn}
+use Rattle.certificate.proofs.fields.time_in.Statement.{statement}
+use Rattle.certificate.proofs.fields.time_in.Tie as tie
+
+minus-requires : tie.Need-minus-requires
+minus-requires c κs = search needs
+
+read-time-requires : tie.Need-read-time-requires
+read-time-requires c κs = search needs
+
+time-is-requires : tie.Need-time-is-requires
+time-is-requires c κs = search needs
+
+returns : tie.Need-returns
+unfolding timeIn
+returns c = cc
+
+pub time-in-spec : {M : Type 1} → statement M
+time-in-spec = tie.close (tie.spec minus-requires read-time-requires time-is-requires returns)

@@ -1,0 +1,36 @@
+-- The key of a certificate (RFC 5280, 4.1.2.7): its algorithm, and what sort of key that makes it.
+use mathlib.Core.List.{List, [], _∷_}
+use mathlib.Core.Bool.{cond}
+use Prim.Native.Nat.{ℕ}
+use Rattle.octets.specs.Same.{sameBy, exactly}
+use Rattle.der.specs.Contents.{contentsOf}
+use Rattle.der.specs.declared.header.Head.{Head}
+use Rattle.certificate.specs.Members.{firstIn, after}
+use Rattle.certificate.specs.declared.key.KeyKind.{KeyKind}
+use Rattle.certificate.specs.declared.key.KeyKind.the-variants.{Rsa, EllipticCurve, Other}
+use Rattle.certificate.specs.declared.key.Key.{Key}
+
+-- rsaEncryption, 1.2.840.113549.1.1.1
+abbrev pub rsaEncryption : List ℕ
+rsaEncryption = 0x2A ∷ 0x86 ∷ 0x48 ∷ 0x86 ∷ 0xF7 ∷ 0x0D ∷ 0x01 ∷ 0x01 ∷ 0x01 ∷ []
+
+-- ecPublicKey, 1.2.840.10045.2.1
+abbrev pub ecPublicKey : List ℕ
+ecPublicKey = 0x2A ∷ 0x86 ∷ 0x48 ∷ 0xCE ∷ 0x3D ∷ 0x02 ∷ 0x01 ∷ []
+
+-- "RSA key" and "EC key" go by the algorithm's OBJECT IDENTIFIER alone, here by its contents
+unfoldable pub kindOf : List ℕ → KeyKind
+kindOf identifier =
+    cond (sameBy exactly identifier rsaEncryption) Rsa
+    (cond (sameBy exactly identifier ecPublicKey) EllipticCurve Other)
+
+-- A SubjectPublicKeyInfo holds an AlgorithmIdentifier and a BIT STRING; the AlgorithmIdentifier an OBJECT IDENTIFIER and, if there are any,
+-- parameters.
+unfoldable pub keyOf : List ℕ → Head → Key
+keyOf s key =
+    record {
+      algorithm = firstIn s key;
+      parameters = after s (firstIn s (firstIn s key)) (firstIn s key .end);
+      bits = after s (firstIn s key) (key .end);
+      kind = kindOf (contentsOf s (firstIn s (firstIn s key)));
+    }

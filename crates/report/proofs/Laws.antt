@@ -1,0 +1,6 @@
+-- Laws of the definitions, by file.
+pub mod Putting
+pub mod Passes
+
+
+

@@ -1,0 +1,145 @@
+-- Appending entries.
+--     tick-below, tick-cap           a count goes up by one, unless it has reached the cap
+--     put-in, put-out                one entry, written or left out
+--     put-picked, put-not            an entry by a test
+--     put-noted                      an entry at an element
+--     nothing                        no entries
+--     _⨾_                            entries, and then others
+--     Rest                           loops: what is still to be put, against what was to be put at the start
+--     rest-start, rest-step, rest-last, rest-end
+--     table-turn, table-end          a table of rules that a loop goes through
+-- Assumes nothing.
+use mathlib.Core.Path.{_≡_, refl, sym, ap, subst, _∙_}
+use mathlib.Core.List.{List, [], _∷_, _++_}
+use mathlib.Core.Bool.{Bool, true, false, cond}
+use Prim.Native.Nat.{ℕ, zero, suc, _+_, _*_, _/_, _≤_, _<_, _^_}
+use native.Mathlib.Nat.{add-zero}
+use native.Mathlib.Numerals.{add-one}
+use native.Mathlib.Omega.{arith}
+use lib.Dec.{ltb, leb}
+use lib.ListN.{length, drop, getD, set, drop-of-length-le}
+use lib.Seq.{sets, drop-cons}
+use borrow.Author.Tests.{lt-ltb, le-ltb, le-leb, lt-leb}
+use Rattle.octets.specs.Places.{placeFrom}
+use Rattle.octets.specs.declared.places.Place.{Place}
+use Rattle.der.specs.declared.header.Head.{Head}
+use Rattle.report.specs.declared.sink.Entry.{Entry}
+use Rattle.report.specs.Entries.{width, pairOf, octetsOf, entryIf, noted}
+use Rattle.report.specs.Forms.{joined}
+use Rattle.report.specs.Putting.{cap, tick, putOne, counted, putAll, Put}
+
+-- ---- one entry
+
+module _ (n : ℕ) where
+  pub tick-below : n < cap → n + 1 ≡ tick n
+  unfolding tick
+  tick-below h = rw (lt-ltb n cap h)
+
+  pub tick-cap : cap ≤ n → n ≡ tick n
+  unfolding tick
+  tick-cap h = rw (le-ltb n cap h)
+
+-- octets behind others
+sets-behind : (xs ys room : List ℕ) (i : ℕ) → sets room i (xs ++ ys) ≡ sets (sets room i xs) (i + length xs) ys
+sets-behind [] ys room i = rw (add-zero i)
+sets-behind (x ∷ xs) ys room i =
+    let e : suc i + length xs ≡ i + suc (length xs) = omega arith in
+    sets-behind xs ys (set room i x) (suc i) ∙ ap (λ (k : ℕ). sets (sets (set room i x) (suc i) xs) k ys) e
+
+module _ (e : Entry) (n : ℕ) (room : List ℕ) where
+  -- a, b and last are the room after each of the three pairs
+  pub put-in : (a b last : List ℕ) → n < length room / width → length room < 2 ^ 63 → a ≡ sets room (width * n) (pairOf (e .rule)) → b ≡ sets a (width * n + 2) (pairOf (e .place .start)) → last ≡ sets b (width * n + 4) (pairOf (e .place .len)) → Put (e ∷ []) n room (n + 1) last
+  unfolding counted putAll putOne
+  put-in a b last h k p q r =
+      let l : width * n + width ≤ length room = omega arith in
+      let f : width * n + 2 + 2 ≡ width * n + 4 = omega arith in
+      let all : sets room (width * n) (octetsOf e) ≡ last
+      = sets-behind (pairOf (e .rule)) (pairOf (e .place .start) ++ pairOf (e .place .len)) room (width * n)
+      ∙ (rw (← p) (sets-behind (pairOf (e .place .start)) (pairOf (e .place .len)) a (width * n + 2) ∙ rw (← q, f) (sym r))) in
+      record { count = tick-below n (omega arith); bytes = rw (le-leb (width * n + width) (length room) l) (sym all) }
+
+  pub put-out : (r : ℕ) → length room / width ≤ n → r ≡ tick n → Put (e ∷ []) n room r room
+  unfolding counted putAll putOne
+  put-out r h t =
+      let l : length room < width * n + width = omega arith in
+      record { count = t; bytes = rw (lt-leb (width * n + width) (length room) l) }
+
+-- ---- entries, and then others
+
+pub nothing : (n : ℕ) (room : List ℕ) → Put [] n room n room
+unfolding counted putAll
+nothing n room = record { count = refl; bytes = refl }
+
+module _ {n r : ℕ} {room last : List ℕ} (e : Entry) (bad : Bool) where
+  pub put-picked : bad ≡ true → Put (e ∷ []) n room r last → Put (entryIf bad e) n room r last
+  unfolding entryIf
+  put-picked t p = rw t p
+
+pub put-not : (e : Entry) (n : ℕ) (room : List ℕ) (bad : Bool) → bad ≡ false → Put (entryIf bad e) n room n room
+unfolding entryIf
+put-not e n room bad t = rw t (nothing n room)
+
+-- the place is the element's
+pub put-noted : {n r : ℕ} {room last : List ℕ} (rule : ℕ) (bad : Bool) (h : Head) (place : Place) → place ≡ placeFrom (h .at) (h .end) → Put (entryIf bad (record { rule = rule; place = place })) n room r last → Put (noted rule bad h) n room r last
+put-noted {n} {r} {room} {last} rule bad h place e p =
+    subst (λ (q : Place). Put (entryIf bad (record { rule = rule; place = q })) n room r last) e p
+
+counted-behind : (es fs : List Entry) (n : ℕ) → counted (es ++ fs) n ≡ counted fs (counted es n)
+unfolding counted
+counted-behind [] fs n = refl
+counted-behind (e ∷ es) fs n = counted-behind es fs (tick n)
+
+put-behind : (es fs : List Entry) (n : ℕ) (room : List ℕ) → putAll (es ++ fs) n room ≡ putAll fs (counted es n) (putAll es n room)
+unfolding counted putAll
+put-behind [] fs n room = refl
+put-behind (e ∷ es) fs n room = put-behind es fs (tick n) (putOne e n room)
+
+pub _⨾_ : {es fs : List Entry} {n m r : ℕ} {a b d : List ℕ} → Put es n a m b → Put fs m b r d → Put (es ++ fs) n a r d
+_⨾_ {es} {fs} {n} {m} {r} {a} p q =
+    let c = p .count in
+    let o = p .bytes in
+    record {
+      count = rw (counted-behind es fs n) (rw (← c) (q .count));
+      bytes = rw (put-behind es fs n a) (rw (← c, ← o) (q .bytes));
+    }
+
+infixr 20 _⨾_
+
+-- ---- loops
+
+-- putting es into room with n entries ends as putting `all` into the room at the start, room₀ with n₀ entries
+pub record Rest (es : List Entry) (n : ℕ) (room : List ℕ) (all : List Entry) (n₀ : ℕ) (room₀ : List ℕ) : Type 0 where
+  pub count : counted es n ≡ counted all n₀
+  pub bytes : putAll es n room ≡ putAll all n₀ room₀
+
+pub rest-start : (es : List Entry) (n : ℕ) (room : List ℕ) → Rest es n room es n room
+rest-start es n room = record { count = refl; bytes = refl }
+
+pub rest-step : {es fs all : List Entry} {n m n₀ : ℕ} {a b a₀ : List ℕ} → Rest (es ++ fs) n a all n₀ a₀ → Put es n a m b → Rest fs m b all n₀ a₀
+rest-step {es} {fs} {all} {n} {m} {n₀} {a} {b} {a₀} s p =
+    let c = p .count in
+    let o = p .bytes in
+    record {
+      count = rw (c, ← counted-behind es fs n) (s .count);
+      bytes = rw (o, c, ← put-behind es fs n a) (s .bytes);
+    }
+
+pub rest-last : {es all : List Entry} {n m n₀ : ℕ} {a b a₀ : List ℕ} → Rest es n a all n₀ a₀ → Put es n a m b → Put all n₀ a₀ m b
+rest-last s p = record { count = p .count ∙ s .count; bytes = p .bytes ∙ s .bytes }
+
+pub rest-end : {all : List Entry} {n n₀ : ℕ} {a a₀ : List ℕ} → Rest [] n a all n₀ a₀ → Put all n₀ a₀ n a
+rest-end s = rest-last s (nothing _ _)
+
+-- ---- a table of rules
+
+module _ (lists : List (List Entry)) (k : ℕ) where
+  next-list : k < length lists → joined (drop k lists) ≡ getD lists k [] ++ joined (drop (k + 1) lists)
+  unfolding joined
+  next-list h = rw (drop-cons lists k [] h, add-one k)
+
+  pub table-turn : {n m n₀ : ℕ} {a b a₀ : List ℕ} {all : List Entry} → k < length lists → Rest (joined (drop k lists)) n a all n₀ a₀ → Put (getD lists k []) n a m b → Rest (joined (drop (k + 1) lists)) m b all n₀ a₀
+  table-turn h rest p = rest-step (rw (next-list h) at rest) p
+
+  pub table-end : {n n₀ : ℕ} {a a₀ : List ℕ} {all : List Entry} → length lists ≤ k → Rest (joined (drop k lists)) n a all n₀ a₀ → Put all n₀ a₀ n a
+  unfolding joined
+  table-end h rest = rest-end (rw (drop-of-length-le lists h) at rest)

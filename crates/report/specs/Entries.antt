@@ -1,0 +1,43 @@
+-- "An entry is rule, start, whole length of the element (header included), each two octets, high first" (document 01, "The report").
+use mathlib.Core.List.{List, [], _∷_, _++_}
+use mathlib.Core.Bool.{Bool, true, false}
+use Prim.Native.Nat.{ℕ, zero, suc, _+_, _-_, _/_, _%_}
+use lib.ListN.{drop}
+use Rattle.octets.specs.Places.{placeFrom}
+use Rattle.octets.specs.Numbers.{pairAt}
+use Rattle.der.specs.declared.header.Head.{Head}
+use Rattle.report.specs.declared.sink.Entry.{Entry}
+
+-- the octets of an entry
+abbrev pub width : ℕ
+width = 6
+
+-- a number as "two octets, high first"
+abbrev pub pairOf : ℕ → List ℕ
+pairOf n = (n / 256 % 256) ∷ (n % 256) ∷ []
+
+abbrev pub octetsOf : Entry → List ℕ
+octetsOf e = pairOf (e .rule) ++ pairOf (e .place .start) ++ pairOf (e .place .len)
+
+-- the octets of the entries, one behind the other
+unfoldable pub encode : List Entry → List ℕ
+encode [] = []
+encode (e ∷ es) = octetsOf e ++ encode es
+
+-- the first n entries that octets say
+unfoldable pub decode : ℕ → List ℕ → List Entry
+decode zero s = []
+decode (suc n) s = record { rule = pairAt s 0; place = record { start = pairAt s 2; len = pairAt s 4 } } ∷ decode n (drop width s)
+
+-- an entry, or none, by a test
+unfoldable pub entryIf : Bool → Entry → List Entry
+entryIf true e = e ∷ []
+entryIf false e = []
+
+-- the entry of a rule at an element
+abbrev pub entryAt : ℕ → Head → Entry
+entryAt rule h = record { rule = rule; place = placeFrom (h .at) (h .end) }
+
+-- a rule that judges one element
+abbrev pub noted : ℕ → Bool → Head → List Entry
+noted rule bad h = entryIf bad (entryAt rule h)

@@ -1,0 +1,31 @@
+-- The two forms of rules on lists: "'Each' gives one entry an item, without a verb an offending one; 'one X' gives an entry at the subject
+-- name if none, and at each further X" (document 01, "Rules on fields").
+use mathlib.Core.List.{List, [], _∷_, _++_, map}
+use mathlib.Core.Bool.{Bool, cond}
+use Prim.Native.Nat.{ℕ}
+use Rattle.der.specs.declared.header.Head.{Head}
+use Rattle.report.specs.declared.sink.Entry.{Entry}
+use Rattle.report.specs.Entries.{entryAt}
+
+-- the items that a test picks, in their order
+unfoldable pub filter : (Head → Bool) → List Head → List Head
+filter test [] = []
+filter test (h ∷ hs) = cond (test h) (h ∷ filter test hs) (filter test hs)
+
+-- "each": an entry for each item that the test picks
+unfoldable pub each : ℕ → (Head → Bool) → List Head → List Entry
+each rule bad hs = map (entryAt rule) (filter bad hs)
+
+-- of the items that are X: an entry at the name if there is none, and at each but the first
+unfoldable pub further : ℕ → Head → List Head → List Entry
+further rule name [] = entryAt rule name ∷ []
+further rule name (h ∷ hs) = map (entryAt rule) hs
+
+-- "one X"
+abbrev pub one : ℕ → (Head → Bool) → Head → List Head → List Entry
+one rule isX name hs = further rule name (filter isX hs)
+
+-- the lists of entries of several rules, one behind the other
+unfoldable pub joined : List (List Entry) → List Entry
+joined [] = []
+joined (es ∷ lists) = es ++ joined lists

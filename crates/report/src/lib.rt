@@ -1,0 +1,8 @@
+// The report: an entry for each finding, one behind the other in lent room.
+mod sink;
+
+pub use sink::Entry;
+pub use sink::fits;
+pub use sink::note;
+pub use sink::put;
+pub use sink::put_if;

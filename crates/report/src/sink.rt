@@ -1,0 +1,91 @@
+// The sink: entries are appended to lent room, and counted whether they fit or not. So the same functions count,
+// over no room at all, and write.
+use der::Head;
+use octets::Place;
+ghost use mathlib.Core.Path.{_≡_};
+ghost use mathlib.Core.List.{[], _∷_};
+ghost use Prim.Native.Nat.{_+_, _*_, _≤_};
+ghost use lib.Dec.{leb};
+ghost use lib.ListN.{length};
+ghost use lib.Seq.{sets};
+ghost use Rattle.report.specs.Entries.{width, pairOf, entryIf, noted};
+ghost use Rattle.report.specs.Putting.{Put, tick};
+
+// A finding: the rule, and the place of the element that breaks it.
+pub struct Entry {
+    pub rule: usize,
+    pub place: Place,
+}
+
+// The octets of an entry.
+const WIDTH: usize = 6;
+
+// No count goes further: so many entries pass any room.
+const CAP: usize = 2305843009213693952;
+
+// Whether so many entries do not exceed room of so many octets.
+pub fn fits(count: usize, room: usize) -> bool
+    ensures { λ r. ⌜ r ≡ leb (width * count) room ⌝ }
+{
+    count <= room / WIDTH
+}
+
+// The count after one entry more.
+fn one_more(n: usize) -> usize
+    ensures { λ r. ⌜ r ≡ tick n ⌝ }
+{
+    if n < CAP {
+        return n + 1;
+    }
+    n
+}
+
+// Writes a number as two octets, the high one first.
+fn write_pair(room: &mut [u8], at: usize, number: usize)
+    requires { ⌜ at + 2 ≤ length (now room) ⌝ }
+    ensures { λ r. ⌜ now (room .exit) ≡ sets (now (room .entry)) at (pairOf number) ⌝ }
+{
+    room[at] = (number / 256 % 256) as u8;
+    room[at + 1] = (number % 256) as u8;
+}
+
+// Appends an entry to the n entries in the room, if it fits, and counts it in any case.
+pub fn put(room: &mut [u8], n: usize, e: Entry) -> usize
+    ensures { λ r. ⌜ Put (e ∷ []) n (now (room .entry)) r (now (room .exit)) ⌝ }
+{
+    let place = e.place;
+    if n < room.len() / WIDTH {
+        let at = WIDTH * n;
+        write_pair(room, at, e.rule);
+        write_pair(room, at + 2, place.start);
+        write_pair(room, at + 4, place.len);
+        return n + 1;
+    }
+    one_more(n)
+}
+
+// The same where `bad`, and nothing where not.
+pub fn put_if(room: &mut [u8], n: usize, bad: bool, e: Entry) -> usize
+    ensures { λ r. ⌜ Put (entryIf bad e) n (now (room .entry)) r (now (room .exit)) ⌝ }
+{
+    if bad {
+        return put(room, n, e);
+    }
+    n
+}
+
+// What a rule does that judges one element: an entry at it where it is bad.
+pub fn note(room: &mut [u8], n: usize, rule: usize, bad: bool, h: Head) -> usize
+    ensures { λ r. ⌜ Put (noted rule bad h) n (now (room .entry)) r (now (room .exit)) ⌝ }
+{
+    let place = Place::element(h.at, h.end);
+    put_if(
+        room,
+        n,
+        bad,
+        Entry {
+            rule: rule,
+            place: place,
+        },
+    )
+}
