@@ -1,6 +1,3 @@
 -- Laws of the definitions, by file.
 pub mod Putting
 pub mod Passes
-
-
-

@@ -104,7 +104,6 @@ _⨾_ {es} {fs} {n} {m} {r} {a} p q =
     }
 
 infixr 20 _⨾_
-
 -- ---- loops
 
 -- putting es into room with n entries ends as putting `all` into the room at the start, room₀ with n₀ entries
