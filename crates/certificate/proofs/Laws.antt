@@ -1,2 +1,4 @@
 -- Laws of the definitions, by file.
 pub mod Fields
+pub mod Extensions
+pub mod Slots

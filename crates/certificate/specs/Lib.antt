@@ -1,4 +1,6 @@
--- What an accepted certificate says: its fields, its key.
+-- What an accepted certificate says: its fields, its key, its extensions.
 pub mod Members
 pub mod Fields
 pub mod Key
+pub mod Extensions
+pub mod Slots

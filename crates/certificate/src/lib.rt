@@ -1,8 +1,16 @@
 // What an accepted certificate says: where its fields are, and what the rules ask of more than one of them.
+mod extensions;
 mod fields;
 mod key;
 mod members;
+mod slots;
 
+pub use extensions::Extension;
+pub use extensions::extension_of;
+pub use extensions::is_period;
+pub use extensions::same_identifier;
+pub use extensions::seen_before;
+pub use extensions::slot_of;
 pub use fields::Certificate;
 pub use fields::read;
 pub use key::Key;
@@ -13,3 +21,8 @@ pub use members::first_in;
 pub use members::inside_tag;
 pub use members::missing;
 pub use members::past;
+pub use slots::Value;
+pub use slots::first_extensions;
+pub use slots::good_values;
+pub use slots::number_at;
+pub use slots::value_at;

@@ -21,7 +21,7 @@ fn fold(letters: Letters, b: u8) -> u8
 }
 
 // A to Z become a to z.
-fn lower_case(b: u8) -> u8
+pub fn lower_case(b: u8) -> u8
     ensures { λ r. ⌜ r ≡ lowerCase b ⌝ }
 {
     if b < 65 {
@@ -65,6 +65,16 @@ pub fn equals(s: &[u8], at: usize, n: usize, text: &[u8]) -> bool
 {
     if n == text.len() {
         return same(s, at, text, 0, n);
+    }
+    false
+}
+
+// Whether the n octets from a on in s are the m octets from b on in t.
+pub fn same_stretch(s: &[u8], a: usize, n: usize, t: &[u8], b: usize, m: usize) -> bool
+    ensures { λ r. ⌜ r ≡ sameBy exactly (octetsFrom (now (s .entry)) a n) (octetsFrom (now (t .entry)) b m) ⌝ }
+{
+    if n == m {
+        return same(s, a, t, b, n);
     }
     false
 }

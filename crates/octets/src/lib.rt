@@ -4,8 +4,10 @@ mod places;
 mod reading;
 
 pub use comparing::equals;
+pub use comparing::lower_case;
 pub use comparing::same;
 pub use comparing::same_ignoring_case;
+pub use comparing::same_stretch;
 pub use places::Place;
 pub use reading::fits;
 pub use reading::minus;

@@ -1,12 +1,12 @@
 -- "An entry is rule, start, whole length of the element (header included), each two octets, high first" (document 01, "The report").
 use mathlib.Core.List.{List, [], _∷_, _++_}
 use mathlib.Core.Bool.{Bool, true, false}
-use Prim.Native.Nat.{ℕ, zero, suc, _+_, _-_, _/_, _%_}
+use Prim.Native.Nat.{ℕ, zero, suc, _/_, _%_}
 use lib.ListN.{drop}
+use Rattle.report.specs.declared.sink.Entry.{Entry}
 use Rattle.octets.specs.Places.{placeFrom}
 use Rattle.octets.specs.Numbers.{pairAt}
 use Rattle.der.specs.declared.header.Head.{Head}
-use Rattle.report.specs.declared.sink.Entry.{Entry}
 
 -- the octets of an entry
 abbrev pub width : ℕ

@@ -1,11 +1,12 @@
 -- The two forms of rules on lists: "'Each' gives one entry an item, without a verb an offending one; 'one X' gives an entry at the subject
 -- name if none, and at each further X" (document 01, "Rules on fields").
 use mathlib.Core.List.{List, [], _∷_, _++_, map}
-use mathlib.Core.Bool.{Bool, cond}
+use mathlib.Core.Bool.{Bool, cond, _&&_}
 use Prim.Native.Nat.{ℕ}
-use Rattle.der.specs.declared.header.Head.{Head}
+use lib.Dec.{ltb}
 use Rattle.report.specs.declared.sink.Entry.{Entry}
 use Rattle.report.specs.Entries.{entryAt}
+use Rattle.der.specs.declared.header.Head.{Head}
 
 -- the items that a test picks, in their order
 unfoldable pub filter : (Head → Bool) → List Head → List Head
@@ -24,6 +25,23 @@ further rule name (h ∷ hs) = map (entryAt rule) hs
 -- "one X"
 abbrev pub one : ℕ → (Head → Bool) → Head → List Head → List Entry
 one rule isX name hs = further rule name (filter isX hs)
+
+-- ---- "one X" as a rule of the form "each"
+
+-- the start of the first X, 0 if there is none
+unfoldable pub firstStart : (Head → Bool) → List Head → ℕ
+firstStart isX [] = 0
+firstStart isX (h ∷ hs) = cond (isX h) (h .at) (firstStart isX hs)
+
+-- an X that starts behind a place
+abbrev pub isBehind : (Head → Bool) → ℕ → Head → Bool
+isBehind isX place h = isX h && ltb place (h .at)
+
+-- ---- several rules
+
+-- a rule that is judged under a condition
+abbrev pub onlyIf : Bool → List Entry → List Entry
+onlyIf judged es = cond judged es []
 
 -- the lists of entries of several rules, one behind the other
 unfoldable pub joined : List (List Entry) → List Entry

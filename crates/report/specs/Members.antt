@@ -1,12 +1,12 @@
 -- What is in a report.
-use mathlib.Core.List.{List, _∷_, List·Memᴰ}
+use mathlib.Core.List.{List, _∷_}
 use mathlib.Core.Path.{_≡_}
 use mathlib.Core.Bool.{Bool, true, false}
 use Prim.Native.Nat.{ℕ}
-use Rattle.der.specs.declared.header.Head.{Head}
 use Rattle.report.specs.declared.sink.Entry.{Entry}
 use Rattle.report.specs.Entries.{entryAt}
 use Rattle.report.specs.Order.{In}
+use Rattle.der.specs.declared.header.Head.{Head}
 
 -- the entry of the rule at an item that the test picks
 pub record Broken (rule : ℕ) (bad : Head → Bool) (hs : List Head) (e : Entry) : Type 0 where

@@ -3,8 +3,8 @@ use mathlib.Core.List.{List, [], _∷_, List·Memᴰ}
 use mathlib.Core.Logic.{_⊎_}
 use mathlib.Core.Path.{_≡_}
 use Prim.Native.Nat.{ℕ, _+_, _≤_, _<_}
-use Rattle.der.specs.declared.header.Head.{Head}
 use Rattle.report.specs.declared.sink.Entry.{Entry}
+use Rattle.der.specs.declared.header.Head.{Head}
 
 -- x is one of the list
 abbrev pub In : {A : Type 0} → A → List A → Type 0
@@ -16,8 +16,8 @@ Before e f = (e .rule < f .rule) ⊎ ((e .rule ≡ f .rule) × (e .place .start 
 
 -- each entry comes before all that are behind it
 pub data Rising : List Entry → Type 0 where
-  none : Rising []
-  more : {e : Entry} {es : List Entry} → ((f : Entry) → In f es → Before e f) → Rising es → Rising (e ∷ es)
+  no-entries : Rising []
+  more-entries : {e : Entry} {es : List Entry} → ((f : Entry) → In f es → Before e f) → Rising es → Rising (e ∷ es)
 
 -- the entries of the rules from `from` on and below `to`, in order
 pub record Ordered (from to : ℕ) (es : List Entry) : Type 0 where
@@ -27,13 +27,13 @@ pub record Ordered (from to : ℕ) (es : List Entry) : Type 0 where
 
 -- the items' starts rise
 pub data Apart : List Head → Type 0 where
-  none : Apart []
-  more : {h : Head} {hs : List Head} → ((g : Head) → In g hs → h .at < g .at) → Apart hs → Apart (h ∷ hs)
+  no-items : Apart []
+  more-items : {h : Head} {hs : List Head} → ((g : Head) → In g hs → h .at < g .at) → Apart hs → Apart (h ∷ hs)
 
--- no item is outside the octets before limit
-abbrev pub Within : ℕ → List Head → Type 0
-Within limit hs = (h : Head) → In h hs → (h .at ≤ limit) × (h .end ≤ limit)
+-- each item has an octet at least, and lies in the octets from `from` on and before `to`
+abbrev pub Between : ℕ → ℕ → List Head → Type 0
+Between from to hs = (h : Head) → In h hs → (from ≤ h .at) × (h .at < h .end) × (h .end ≤ to)
 
--- no entry's place is outside the octets before limit
+-- each entry's place lies in the octets before limit
 abbrev pub Inside : ℕ → List Entry → Type 0
 Inside limit es = (e : Entry) → In e es → e .place .start + e .place .len ≤ limit

@@ -11,22 +11,21 @@
 -- Assumes nothing.
 use mathlib.Core.Path.{_≡_, refl, sym, ap, subst, _∙_}
 use mathlib.Core.List.{List, [], _∷_, _++_}
-use mathlib.Core.Bool.{Bool, true, false, cond}
-use Prim.Native.Nat.{ℕ, zero, suc, _+_, _*_, _/_, _≤_, _<_, _^_}
+use mathlib.Core.Bool.{Bool, true, false}
+use Prim.Native.Nat.{ℕ, suc, _+_, _*_, _/_, _≤_, _<_, _^_}
 use native.Mathlib.Nat.{add-zero}
 use native.Mathlib.Numerals.{add-one}
 use native.Mathlib.Omega.{arith}
-use lib.Dec.{ltb, leb}
 use lib.ListN.{length, drop, getD, set, drop-of-length-le}
 use lib.Seq.{sets, drop-cons}
 use borrow.Author.Tests.{lt-ltb, le-ltb, le-leb, lt-leb}
-use Rattle.octets.specs.Places.{placeFrom}
-use Rattle.octets.specs.declared.places.Place.{Place}
-use Rattle.der.specs.declared.header.Head.{Head}
 use Rattle.report.specs.declared.sink.Entry.{Entry}
 use Rattle.report.specs.Entries.{width, pairOf, octetsOf, entryIf, noted}
 use Rattle.report.specs.Forms.{joined}
 use Rattle.report.specs.Putting.{cap, tick, putOne, counted, putAll, Put}
+use Rattle.octets.specs.Places.{placeFrom}
+use Rattle.octets.specs.declared.places.Place.{Place}
+use Rattle.der.specs.declared.header.Head.{Head}
 
 -- ---- one entry
 

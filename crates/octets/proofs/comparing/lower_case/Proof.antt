@@ -1,4 +1,4 @@
--- `octets::comparing::lower_case` meets its contract. Assumes nothing.
+-- `octets::lower_case` meets its contract. Assumes nothing.
 use borrow.Author.Needs.{needs}
 use borrow.Author.Tests.{lt-ltb, le-ltb}
 use Rattle.octets.proofs.comparing.lower_case.Statement.{statement}

@@ -1,8 +1,8 @@
 -- `report::fits` meets its contract. Assumes nothing.
-use native.Mathlib.Omega.{arith}
 use Prim.Native.Nat.{_*_, _/_}
-use Rattle.octets.proofs.Laws.Tests.{leb-same}
+use native.Mathlib.Omega.{arith}
 use Rattle.report.specs.Entries.{width}
+use Rattle.octets.proofs.Laws.Tests.{leb-same}
 use Rattle.report.proofs.sink.fits.Statement.{statement}
 use Rattle.report.proofs.sink.fits.Tie as tie
 

@@ -1,6 +1,6 @@
 -- `report::put` meets its contract. Assumes nothing.
-use Rattle.report.proofs.Laws.Putting.{put-in, put-out}
 use borrow.Author.Needs.{needs}
+use Rattle.report.proofs.Laws.Putting.{put-in, put-out}
 use Rattle.report.proofs.sink.put.Statement.{statement}
 use Rattle.report.proofs.sink.put.Tie as tie
 

@@ -1,6 +1,6 @@
 -- `report::put_if` meets its contract. Assumes nothing.
-use Rattle.report.proofs.Laws.Putting.{put-picked, put-not}
 use borrow.Author.Needs.{needs}
+use Rattle.report.proofs.Laws.Putting.{put-picked, put-not}
 use Rattle.report.proofs.sink.put_if.Statement.{statement}
 use Rattle.report.proofs.sink.put_if.Tie as tie
 

@@ -1,0 +1,99 @@
+-- The extensions of a certificate (RFC 5280, 4.1.2.9), and their slots in document 01's table, "Rules on extensions".
+use mathlib.Core.List.{List, [], _∷_}
+use mathlib.Core.Bool.{Bool, false, cond, _||_}
+use Prim.Native.Nat.{ℕ, _+_}
+use lib.Dec.{eqb}
+use Rattle.octets.specs.Same.{sameBy, exactly}
+use Rattle.der.specs.Header.{childrenOf}
+use Rattle.der.specs.Contents.{contentsOf}
+use Rattle.der.specs.declared.header.Head.{Head}
+use Rattle.certificate.specs.Members.{firstIn, after, past}
+use Rattle.certificate.specs.declared.extensions.Extension.{Extension}
+
+-- ---- Extension: extnID, critical BOOLEAN DEFAULT FALSE, extnValue
+
+-- the contents of its OBJECT IDENTIFIER
+abbrev pub identifierOf : List ℕ → Head → List ℕ
+identifierOf s h = contentsOf s (firstIn s h)
+
+-- the member after the identifier: a BOOLEAN, which "if written, is TRUE", or the value
+abbrev pub secondIn : List ℕ → Head → Head
+secondIn s h = after s (firstIn s h) (h .end)
+
+unfoldable pub extensionOf : List ℕ → Head → Extension
+extensionOf s h =
+    record {
+      place = h;
+      critical = eqb (secondIn s h .tag) 0x01;
+      value = past 0x01 s (secondIn s h) (h .end);
+    }
+
+-- ---- the table
+
+-- 2.5.29.n
+abbrev pub certificateExtension : ℕ → List ℕ
+certificateExtension n = 0x55 ∷ 0x1D ∷ n ∷ []
+
+-- 1.3.6.1.5.5.7.1.1
+abbrev pub authorityInfoAccess : List ℕ
+authorityInfoAccess = 0x2B ∷ 0x06 ∷ 0x01 ∷ 0x05 ∷ 0x05 ∷ 0x07 ∷ 0x01 ∷ 0x01 ∷ []
+
+-- 1.3.6.1.5.5.7.48.1.5
+abbrev pub nocheck : List ℕ
+nocheck = 0x2B ∷ 0x06 ∷ 0x01 ∷ 0x05 ∷ 0x05 ∷ 0x07 ∷ 0x30 ∷ 0x01 ∷ 0x05 ∷ []
+
+-- the identifiers of slots 1 to 10
+abbrev pub identifiers : List (List ℕ)
+identifiers =
+    certificateExtension 35  -- authority key id
+    ∷ certificateExtension 19  -- basic constraints
+    ∷ certificateExtension 14  -- subject key id
+    ∷ certificateExtension 15  -- key usage
+    ∷ certificateExtension 37  -- extended key usage
+    ∷ certificateExtension 32  -- policies
+    ∷ certificateExtension 17  -- alternative name
+    ∷ authorityInfoAccess
+    ∷ certificateExtension 31  -- CRL points
+    ∷ nocheck
+    ∷ []
+
+-- the position of an identifier in a list, the first of which has position k; 0 if it is not there
+abbrev pub positionFrom : ℕ → List (List ℕ) → List ℕ → ℕ
+positionFrom k [] identifier = 0
+positionFrom k (i ∷ is) identifier = cond (sameBy exactly identifier i) k (positionFrom (k + 1) is identifier)
+
+unfoldable pub slotFor : List ℕ → ℕ
+slotFor identifier = positionFrom 1 identifiers identifier
+
+-- 1 to 10 as in the table, 0 for an identifier that is not in it
+abbrev pub slotOf : List ℕ → Head → ℕ
+slotOf s h = slotFor (identifierOf s h)
+
+-- the slot of 2.5.29.n, as the code finds it
+abbrev pub slotBy : ℕ → ℕ
+slotBy n =
+    cond (eqb n 35) 1
+    (cond (eqb n 19) 2
+    (cond (eqb n 14) 3
+    (cond (eqb n 15) 4
+    (cond (eqb n 37) 5
+    (cond (eqb n 32) 6
+    (cond (eqb n 17) 7
+    (cond (eqb n 31) 9 0)))))))
+
+-- "private key usage period 2.5.29.16"
+abbrev pub isPeriod : List ℕ → Head → Bool
+isPeriod s h = sameBy exactly (identifierOf s h) (certificateExtension 16)
+
+-- ---- 361 "each later extension with an identifier seen before"
+
+abbrev pub sameIdentifier : List ℕ → Head → Head → Bool
+sameIdentifier s a b = sameBy exactly (identifierOf s a) (identifierOf s b)
+
+unfoldable pub anyOf : (Head → Bool) → List Head → Bool
+anyOf p [] = false
+anyOf p (h ∷ hs) = p h || anyOf p hs
+
+-- some extension of a list that starts at from, before the extension h, has its identifier
+unfoldable pub seenBefore : List ℕ → ℕ → Head → Bool
+seenBefore s from h = anyOf (λ e. sameIdentifier s e h) (childrenOf s from (h .at))

@@ -1,0 +1,8 @@
+// Rules that judge the items of a list one by one: what they say of one item, and the loops that write their entries.
+mod kinds;
+mod loops;
+
+pub use kinds::Kind;
+pub use kinds::broken;
+pub use loops::each;
+pub use loops::each_within;

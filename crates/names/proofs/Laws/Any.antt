@@ -1,0 +1,28 @@
+-- At least one of the elements of a list.
+--     any-done      none left
+--     any-next      the first, which is h, or one of those after it
+--     any-found, any-missed      by what the test says of h
+-- Assumes nothing.
+use mathlib.Core.Path.{_≡_, refl, sym, ap, _∙_}
+use mathlib.Core.List.{List}
+use mathlib.Core.Bool.{Bool, true, false, _||_}
+use Prim.Native.Nat.{ℕ, _≤_, _<_}
+use Rattle.der.specs.Header.{headOf, childrenOf}
+use Rattle.der.specs.declared.header.Head.{Head}
+use Rattle.der.proofs.Laws.Children.{children-done, children-next}
+use Rattle.names.specs.Names.{anyOf}
+
+pub any-done : (test : Head → Bool) (s : List ℕ) (at end : ℕ) → end ≤ at → anyOf test (childrenOf s at end) ≡ false
+unfolding anyOf
+any-done test s at end l = rw (children-done s at end l)
+
+module _ (test : Head → Bool) (s : List ℕ) (at end : ℕ) (h : Head) (l : at < end) (e : h ≡ headOf s at end) where
+  pub any-next : anyOf test (childrenOf s at end) ≡ (test h || anyOf test (childrenOf s (h .end) end))
+  unfolding anyOf
+  any-next = rw (children-next s at end l, e)
+
+  pub any-found : test h ≡ true → anyOf test (childrenOf s at end) ≡ true
+  any-found f = any-next ∙ ap (λ (b : Bool). b || anyOf test (childrenOf s (h .end) end)) f
+
+  pub any-missed : test h ≡ false → anyOf test (childrenOf s at end) ≡ anyOf test (childrenOf s (h .end) end)
+  any-missed f = any-next ∙ ap (λ (b : Bool). b || anyOf test (childrenOf s (h .end) end)) f

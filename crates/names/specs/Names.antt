@@ -1,0 +1,25 @@
+-- Names (RFC 5280, 4.2.1.6: GeneralName), and the rule that holds a common name to them.
+use mathlib.Core.List.{List, [], _∷_}
+use mathlib.Core.Bool.{Bool, false, _&&_, _||_}
+use Prim.Native.Nat.{ℕ}
+use lib.Dec.{eqb}
+use Rattle.octets.specs.Same.{sameBy, lowerCase}
+use Rattle.der.specs.Contents.{contentsOf}
+use Rattle.der.specs.declared.header.Head.{Head}
+
+-- whether the test picks at least one of several elements
+unfoldable pub anyOf : (Head → Bool) → List Head → Bool
+anyOf test [] = false
+anyOf test (h ∷ hs) = test h || anyOf test hs
+
+-- dNSName [2] IA5String: tag 82 hex
+abbrev pub isDnsName : Head → Bool
+isDnsName h = eqb (h .tag) 130
+
+-- a dNSName whose contents are these octets, ASCII case ignored
+abbrev pub isNamed : List ℕ → List ℕ → Head → Bool
+isNamed s c h = isDnsName h && sameBy lowerCase c (contentsOf s h)
+
+-- 120 "the first CN equals at least one dNSName of the subject alternative name, ASCII case ignored. Content octets are compared"
+abbrev pub someNamed : List ℕ → List ℕ → List Head → Bool
+someNamed s c names = anyOf (isNamed s c) names

@@ -1,0 +1,48 @@
+-- Rules 101 to 104 (document 01, "Rules on fields").
+use mathlib.Core.Bool.{Bool, cond, not, _&&_}
+use mathlib.Core.List.{List, [], _∷_, _++_}
+use Prim.Native.Nat.{ℕ, _-_}
+use lib.Dec.{ltb, eqb}
+use Rattle.octets.specs.Same.{sameBy, exactly}
+use Rattle.der.specs.Contents.{contentsOf}
+use Rattle.der.specs.Integers.{integerOf}
+use Rattle.der.specs.declared.header.Head.{Head}
+use Rattle.numbers.specs.Numbers.{isPositive}
+use Rattle.profiles.specs.Fields.{isServer}
+use Rattle.profiles.specs.declared.fields.Profile.{Profile}
+use Rattle.certificate.specs.Members.{firstIn}
+use Rattle.certificate.specs.declared.fields.Certificate.{Certificate}
+use Rattle.report.specs.Entries.{noted}
+use Rattle.report.specs.declared.sink.Entry.{Entry}
+
+-- the version stands in [0], and 2 says v3 (RFC 5280, 4.1.2.1)
+abbrev pub isV3 : List ℕ → Head → Bool
+isV3 s version = eqb (version .tag) 0xA0 && sameBy exactly (contentsOf s (firstIn s version)) (2 ∷ [])
+
+abbrev pub versionPlace : Head → Head → Head
+versionPlace version tbs = cond (eqb (version .tag) 0xA0) version tbs
+
+-- 101 "version v3 (at its [0], or the TBS structure)"
+abbrev pub rule101 : List ℕ → Certificate → List Entry
+rule101 s c = noted 101 (not (isV3 s (c .version))) (versionPlace (c .version) (c .tbs))
+
+abbrev pub isAboveZero : List ℕ → Head → Bool
+isAboveZero s serial = isPositive (integerOf (contentsOf s serial))
+
+-- 102 "serial above zero"
+abbrev pub rule102 : List ℕ → Certificate → List Entry
+rule102 s c = noted 102 (not (isAboveZero s (c .serial))) (c .serial)
+
+abbrev pub serialLength : Head → ℕ
+serialLength serial = serial .end - serial .body
+
+-- 103 "serial at most 20 content octets"
+abbrev pub rule103 : Certificate → List Entry
+rule103 c = noted 103 (ltb 20 (serialLength (c .serial))) (c .serial)
+
+-- 104 "O: at least 8"
+abbrev pub rule104 : Profile → Certificate → List Entry
+rule104 p c = noted 104 (not (isServer p) && ltb (serialLength (c .serial)) 8) (c .serial)
+
+unfoldable pub versionAndSerial : Profile → List ℕ → Certificate → List Entry
+versionAndSerial p s c = rule101 s c ++ (rule102 s c ++ (rule103 c ++ rule104 p c))

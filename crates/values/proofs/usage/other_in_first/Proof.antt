@@ -1,0 +1,47 @@
+-- `values::usage::other_in_first` meets its contract. Assumes nothing.
+use borrow.Author.Needs.{needs}
+use Rattle.values.proofs.Laws.Usage.{first-bits}
+use Rattle.values.proofs.usage.other_in_first.Statement.{statement}
+use Rattle.values.proofs.usage.other_in_first.Tie as tie
+
+odd-alone-requires : tie.Need-odd-alone-requires
+odd-alone-requires c κs = search needs
+
+odd-alone-requires-2 : tie.Need-odd-alone-requires-2
+odd-alone-requires-2 c κs = search needs
+
+odd-alone-requires-3 : tie.Need-odd-alone-requires-3
+odd-alone-requires-3 c κs = search needs
+
+odd-alone-requires-4 : tie.Need-odd-alone-requires-4
+odd-alone-requires-4 c κs = search needs
+
+odd-alone-requires-5 : tie.Need-odd-alone-requires-5
+odd-alone-requires-5 c κs = search needs
+
+odd-alone-requires-6 : tie.Need-odd-alone-requires-6
+odd-alone-requires-6 c κs = search needs
+
+odd-alone-requires-7 : tie.Need-odd-alone-requires-7
+odd-alone-requires-7 c κs = search needs
+
+returns : tie.Need-returns
+returns c =
+    let c6 = c .before in
+    let c4 = c6 .before .before in
+    let c2 = c4 .before .before in
+    let a = c2 .before .before .args in
+    rw (c2 .before .odd-alone .ensures, c2 .odd-alone2 .ensures, c4 .before .odd-alone3 .ensures, c4 .odd-alone4 .ensures, c6 .before .odd-alone5 .ensures, c6 .odd-alone6 .ensures, c .odd-alone7 .ensures) (first-bits (a .bits) (a .allowed))
+
+pub other-in-first-spec : {M : Type 1} → statement M
+other-in-first-spec =
+    tie.close
+    (tie.spec
+    odd-alone-requires
+    odd-alone-requires-2
+    odd-alone-requires-3
+    odd-alone-requires-4
+    odd-alone-requires-5
+    odd-alone-requires-6
+    odd-alone-requires-7
+    returns)

@@ -1,0 +1,29 @@
+-- `values::wanted::policy_below` meets its contract. Assumes nothing.
+use borrow.Author.Needs.{needs}
+use Rattle.values.proofs.Laws.Policies.{policy-law}
+use Rattle.values.proofs.wanted.policy_below.Statement.{statement}
+use Rattle.values.proofs.wanted.policy_below.Tie as tie
+
+first-item-requires : tie.Need-first-item-requires
+first-item-requires c κs = search needs
+
+slice-aggregate-equals : tie.Need-slice-aggregate-equals
+slice-aggregate-equals c = search needs
+
+equals-requires : tie.Need-equals-requires
+equals-requires c κs = search needs
+
+minus-requires : tie.Need-minus-requires
+minus-requires c κs = search needs
+
+returns : tie.Need-returns
+returns c =
+    let e = c .before in
+    let p = e .before .before in
+    let a = p .before .before .args in
+    policy-law (a .s .now) (a .h) (p .first-item .result) (c .minus .result) (e .equals .result) (p .first-item .ensures) (c .minus .ensures) (e .equals .ensures)
+
+pub policy-below-spec : {M : Type 1} → statement M
+policy-below-spec =
+    tie.close
+    (tie.spec first-item-requires slice-aggregate-equals equals-requires minus-requires returns)
