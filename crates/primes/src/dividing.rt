@@ -21,7 +21,7 @@ fn renew(s: &[u8], body: usize, end: usize, last: u64, r: u64, m: u64) -> u64
 }
 
 // Whether none of the primes divides the number, by its residues modulo the products beside them.
-fn none_divides(s: &[u8], body: usize, end: usize, primes: &[u16], products: &[u64]) -> bool
+fn none_divides(s: &[u8], body: usize, end: usize, primes: &[u16], products: &[u32]) -> bool
     requires { ⌜ rowsOk (now primes) (now products) ≡ true ⌝ }
     ensures { λ r. ⌜ r ≡ freeOf (now (primes .entry)) (number (now (s .entry)) body end) ⌝ }
 {
@@ -29,7 +29,7 @@ fn none_divides(s: &[u8], body: usize, end: usize, primes: &[u16], products: &[u
     let mut last: u64 = 1;
     let mut r: u64 = 0;
     while k < primes.len() {
-        let m = products[k];
+        let m = products[k] as u64;
         r = renew(s, body, end, last, r, m);
         last = m;
         if r % (primes[k] as u64) == 0 {

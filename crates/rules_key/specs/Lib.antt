@@ -1,3 +1,6 @@
--- What rules 201 to 207 ask of a key.
+-- Rules 201 to 207, one definition a rule.
 pub mod Parameters
+pub mod Algorithm
 pub mod Bits
+pub mod Rsa
+pub mod Rules

@@ -175,9 +175,10 @@ row (p ∷ ps) (m ∷ ms) t (suc k) h =
 
 -- ---- the loop over the primes
 
-module _ (ps : List ℕ) (k m v r : ℕ) (h : k < length ps) (w : Row (getD ps k 0) m) (e : r ≡ v % m) where
+-- r is the number modulo the product beside the kth prime
+module _ (ps ms : List ℕ) (t : rowsOk ps ms ≡ true) (k v r : ℕ) (h : k < length ps) (e : r ≡ v % getD ms k 0) where
   down : r % getD ps k 0 ≡ v % getD ps k 0
-  down = ap (λ (x : ℕ). x % getD ps k 0) e ∙ mod-mod-of-dvd (getD ps k 0) v (w .divides)
+  down = ap (λ (x : ℕ). x % getD ps k 0) e ∙ mod-mod-of-dvd (getD ps k 0) v (row ps ms t k h .1 .divides)
 
   pub free-bad : r % getD ps k 0 ≡ 0 → freeOf (drop k ps) v ≡ false
   unfolding freeOf
