@@ -3,9 +3,10 @@
 use mathlib.Core.List.{List, [], _∷_, _++_, map}
 use mathlib.Core.Bool.{Bool, cond, _&&_}
 use Prim.Native.Nat.{ℕ}
-use lib.Dec.{ltb}
+use lib.Dec.{leb}
 use Rattle.report.specs.declared.sink.Entry.{Entry}
 use Rattle.report.specs.Entries.{entryAt}
+use Rattle.der.specs.Header.{brokenHead}
 use Rattle.der.specs.declared.header.Head.{Head}
 
 -- the items that a test picks, in their order
@@ -28,14 +29,17 @@ one rule isX name hs = further rule name (filter isX hs)
 
 -- ---- "one X" as a rule of the form "each"
 
--- the start of the first X, 0 if there is none
-unfoldable pub firstStart : (Head → Bool) → List Head → ℕ
-firstStart isX [] = 0
-firstStart isX (h ∷ hs) = cond (isX h) (h .at) (firstStart isX hs)
+-- the first X, and if there is none an empty element at the end of the list
+unfoldable pub firstOf : (Head → Bool) → ℕ → List Head → Head
+firstOf isX end [] = brokenHead end end
+firstOf isX end (h ∷ hs) = cond (isX h) h (firstOf isX end hs)
 
--- an X that starts behind a place
+abbrev pub isEmpty : Head → Bool
+isEmpty h = leb (h .end) (h .at)
+
+-- an X that starts at a place or behind it
 abbrev pub isBehind : (Head → Bool) → ℕ → Head → Bool
-isBehind isX place h = isX h && ltb place (h .at)
+isBehind isX place h = isX h && leb place (h .at)
 
 -- ---- several rules
 
