@@ -5,7 +5,7 @@ use der::Head;
 use profiles::Profile;
 ghost use mathlib.Core.Path.{_≡_};
 ghost use Rattle.der.specs.Header.{childrenOf, brokenHead};
-ghost use Rattle.report.specs.Forms.{firstOf};
+ghost use Rattle.report.specs.Forms.{firstOf, noneOf};
 ghost use Rattle.items.specs.Kinds.{breaks};
 ghost use Rattle.items.specs.Lists.{grandchildren};
 
@@ -34,6 +34,14 @@ pub fn first(kind: Kind, p: Profile, mark: usize, s: &[u8], from: usize, to: usi
         at = item.end;
     }
     empty_at(to)
+}
+
+// Whether there is none among the elements from `from` to `to`.
+pub fn none_of(kind: Kind, p: Profile, mark: usize, s: &[u8], from: usize, to: usize) -> bool
+    ensures { λ r. ⌜ r ≡ noneOf (breaks kind p mark (now (s .entry))) (childrenOf (now (s .entry)) from to) ⌝ }
+{
+    let found = first(kind, p, mark, s, from, to);
+    found.end <= found.at
 }
 
 // Of the members of the elements from `from` to `to`.

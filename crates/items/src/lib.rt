@@ -5,6 +5,7 @@ mod loops;
 
 pub use firsts::first;
 pub use firsts::first_within;
+pub use firsts::none_of;
 pub use kinds::Kind;
 pub use kinds::broken;
 pub use loops::each;

@@ -1,7 +1,7 @@
 -- The two forms of rules on lists: "'Each' gives one entry an item, without a verb an offending one; 'one X' gives an entry at the subject
 -- name if none, and at each further X" (document 01, "Rules on fields").
 use mathlib.Core.List.{List, [], _∷_, _++_, map}
-use mathlib.Core.Bool.{Bool, cond, _&&_}
+use mathlib.Core.Bool.{Bool, true, cond, not, _&&_}
 use Prim.Native.Nat.{ℕ}
 use lib.Dec.{leb}
 use Rattle.report.specs.declared.sink.Entry.{Entry}
@@ -26,6 +26,11 @@ further rule name (h ∷ hs) = map (entryAt rule) hs
 -- "one X"
 abbrev pub one : ℕ → (Head → Bool) → Head → List Head → List Entry
 one rule isX name hs = further rule name (filter isX hs)
+
+-- there is no item that the test picks
+unfoldable pub noneOf : (Head → Bool) → List Head → Bool
+noneOf test [] = true
+noneOf test (h ∷ hs) = not (test h) && noneOf test hs
 
 -- ---- "one X" as a rule of the form "each"
 

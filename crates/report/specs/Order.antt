@@ -35,5 +35,5 @@ abbrev pub Between : ℕ → ℕ → List Head → Type 0
 Between from to hs = (h : Head) → In h hs → (from ≤ h .at) × (h .at < h .end) × (h .end ≤ to)
 
 -- each entry's place lies in the octets before limit
-abbrev pub Inside : ℕ → List Entry → Type 0
-Inside limit es = (e : Entry) → In e es → e .place .start + e .place .len ≤ limit
+abbrev pub Inside : List Entry → ℕ → Type 0
+Inside es limit = (e : Entry) → In e es → e .place .start + e .place .len ≤ limit

@@ -2,20 +2,21 @@
 --     first-none                   of no items
 --     first-found, first-passed, first-done      of the elements of a stretch, one by one
 --     first-here, first-later      of two lists: in the one, or else in the other
+--     none-by-first                there is none if the first is empty
 --     one-by-first                 an entry at the name if there is no first X, and at each X behind it
 --     each-all                     each item is at place 0 or behind it
 -- Assumes nothing.
 use mathlib.Core.Path.{_≡_, refl, ap}
 use mathlib.Core.List.{List, [], _∷_, _++_, map}
 use mathlib.Core.List.List·Memᴰ.{List·Memᴰ·head, List·Memᴰ·tail}
-use mathlib.Core.Bool.{Bool, true, false, cond, _&&_}
+use mathlib.Core.Bool.{Bool, true, false, cond, not, _&&_}
 use Prim.Native.Nat.{ℕ, _≤_, _<_}
 use native.Mathlib.Nat.{le-refl}
 use native.Mathlib.Omega.{arith}
 use lib.Dec.{leb}
 use borrow.Author.Tests.{le-leb, lt-leb}
 use Rattle.report.specs.Entries.{entryAt, entryIf, noted}
-use Rattle.report.specs.Forms.{filter, each, further, one, firstOf, isEmpty, isBehind}
+use Rattle.report.specs.Forms.{filter, each, further, one, firstOf, isEmpty, isBehind, noneOf}
 use Rattle.report.specs.Order.{In, Apart}
 use Rattle.report.specs.Order.Apart.{no-items, more-items}
 use Rattle.der.specs.Header.{brokenHead, headOf, childrenOf}
@@ -65,6 +66,15 @@ module _ (isX : Head → Bool) (end : ℕ) where
     where
       go : (t : Bool) → firstOf isX end (gs ++ hs) ≡ cond (isEmpty (firstOf isX mid gs)) (firstOf isX end hs) (firstOf isX mid gs) → cond t h (firstOf isX end (gs ++ hs)) ≡ cond (isEmpty (cond t h (firstOf isX mid gs))) (firstOf isX end hs) (cond t h (firstOf isX mid gs))
       go true ih = rw (lt-leb (h .end) (h .at) l)
+      go false ih = ih
+
+  pub none-by-first : {hs : List Head} → Apart hs → isEmpty (firstOf isX end hs) ≡ noneOf isX hs
+  unfolding firstOf noneOf
+  none-by-first no-items = le-leb end end (le-refl end)
+  none-by-first (more-items {h = h} {hs = hs} l f r) = go (isX h) (none-by-first r)
+    where
+      go : (t : Bool) → isEmpty (firstOf isX end hs) ≡ noneOf isX hs → isEmpty (cond t h (firstOf isX end hs)) ≡ (not t && noneOf isX hs)
+      go true ih = lt-leb (h .end) (h .at) l
       go false ih = ih
 
   module _ {gs : List Head} (mid : ℕ) (hs : List Head) (item : Head) (a : Apart gs) (e : item ≡ firstOf isX mid gs) where

@@ -175,29 +175,29 @@ module _ (rule to : ℕ) (l : rule < to) where
 
 -- ---- the forms of rules: bounds
 
-pub none-inside : (limit : ℕ) → Inside limit []
+pub none-inside : (limit : ℕ) → Inside [] limit
 none-inside limit e m = absurd (List·Memᴰ·not-nil m)
 
-pub join-inside : {limit : ℕ} (es fs : List Entry) → Inside limit es → Inside limit fs → Inside limit (es ++ fs)
+pub join-inside : {limit : ℕ} (es fs : List Entry) → Inside es limit → Inside fs limit → Inside (es ++ fs) limit
 join-inside es fs p q e m = ⊎-elim (p e) (q e) (List·Memᴰ·append-cases es m)
 
-pub only-inside : {limit : ℕ} (judged : Bool) (es : List Entry) → Inside limit es → Inside limit (onlyIf judged es)
+pub only-inside : {limit : ℕ} (judged : Bool) (es : List Entry) → Inside es limit → Inside (onlyIf judged es) limit
 only-inside judged es p e m = p e (only-in judged es e .0 m .1)
 
 at-item : (limit rule : ℕ) (h : Head) (e : Entry) → h .at ≤ h .end → h .end ≤ limit → e ≡ entryAt rule h → e .place .start + e .place .len ≤ limit
 at-item limit rule h e l k q = rw q (omega arith)
 
 module _ (limit rule : ℕ) where
-  pub noted-inside : (bad : Bool) (h : Head) → h .at ≤ h .end → h .end ≤ limit → Inside limit (noted rule bad h)
+  pub noted-inside : (bad : Bool) (h : Head) → h .at ≤ h .end → h .end ≤ limit → Inside (noted rule bad h) limit
   noted-inside bad h l k e m = at-item limit rule h e l k (noted-in rule bad h e .0 m .1)
 
-  pub each-inside : {hs : List Head} (from : ℕ) (bad : Head → Bool) → Between from limit hs → Inside limit (each rule bad hs)
+  pub each-inside : {hs : List Head} (from : ℕ) (bad : Head → Bool) → Between from limit hs → Inside (each rule bad hs) limit
   each-inside {hs} from bad f e m =
       let p = each-in rule bad hs e .0 m in
       let k = f (p .item) (p .among) in
       at-item limit rule (p .item) e (omega arith) (k .2) (p .entry)
 
-  pub one-inside : {hs : List Head} (from : ℕ) (isX : Head → Bool) (name : Head) → name .at ≤ name .end → name .end ≤ limit → Between from limit hs → Inside limit (one rule isX name hs)
+  pub one-inside : {hs : List Head} (from : ℕ) (isX : Head → Bool) (name : Head) → name .at ≤ name .end → name .end ≤ limit → Between from limit hs → Inside (one rule isX name hs) limit
   one-inside {hs} from isX name l k f e m = ⊎-elim missing repeated (one-in rule isX name hs e .0 m)
     where
       missing : Missing rule isX name hs e → e .place .start + e .place .len ≤ limit
