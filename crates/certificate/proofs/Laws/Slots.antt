@@ -2,6 +2,7 @@
 --     by-slot-at, by-slot-is                 the number of a slot; a list of 11 numbers, each as it should be
 --     slot-below                             a slot is below 11
 --     filled-none, filled-next, filled-all   the starts of first extensions, filled in one extension after the other
+--     start-at                               the start of the first extension in one slot
 --     valued-none, valued-next, valued-all   numbers filled in slot by slot
 --     good-none, good-some                   the start of a value, by its tests
 -- Assumes nothing.
@@ -114,6 +115,11 @@ pub filled-all : (s : List ℕ) (all : List Head) (starts : List ℕ) (i end : �
 unfolding startsOf startIn
 filled-all s all starts i end h f =
     by-slot-is (startIn s all) starts (f .long) (λ slot b. sym (f .each slot b ∙ (ap (λ (l : List Head). orElse (getD starts slot 0) (startIn s l slot)) (children-done s i end h) ∙ else-none (getD starts slot 0))))
+
+-- the first extension of one slot
+pub start-at : (s : List ℕ) (hs : List Head) (slot : ℕ) → slot < 11 → getD (startsOf s hs) slot 0 ≡ startIn s hs slot
+unfolding startsOf
+start-at s hs slot h = by-slot-at (startIn s hs) slot h
 
 -- ---- slot after slot
 
