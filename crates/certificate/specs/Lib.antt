@@ -5,3 +5,5 @@ pub mod Key
 pub mod Extensions
 pub mod Slots
 pub mod Issuer
+pub mod Inside
+pub mod Named

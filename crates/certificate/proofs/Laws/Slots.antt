@@ -4,6 +4,7 @@
 --     filled-none, filled-next, filled-all   the starts of first extensions, filled in one extension after the other
 --     start-at                               the start of the first extension in one slot
 --     valued-none, valued-next, valued-all   numbers filled in slot by slot
+--     value-start, value-past                the number of a slot, and past the slots
 --     good-none, good-some                   the start of a value, by its tests
 -- Assumes nothing.
 use mathlib.Core.Path.{_≡_, refl, sym, ap, _∙_}
@@ -17,7 +18,7 @@ use lib.Seq.{getD-set-same, getD-set-other, ext-getD}
 use lib.Dec.{eqb}
 use borrow.Author.Tests.{eqb-true, eqb-false}
 use Rattle.certificate.specs.Extensions.{identifiers, positionFrom, slotFor, slotOf, extensionOf}
-use Rattle.certificate.specs.Slots.{numbersFrom, bySlot, orElse, startIn, startsOf, goodStart}
+use Rattle.certificate.specs.Slots.{numbersFrom, bySlot, orElse, startIn, startsOf, goodStart, valuesOf}
 use Rattle.certificate.specs.declared.extensions.Extension.{Extension}
 use Rattle.octets.specs.Same.{sameBy, exactly}
 use Rattle.der.specs.Header.{headOf, childrenOf}
@@ -153,6 +154,15 @@ pub valued-all : (f : ℕ → ℕ) (values : List ℕ) (k : ℕ) → 11 ≤ k �
 valued-all f values k h v = by-slot-is f values (v .long) (λ slot b. v .each slot (omega arith))
 
 -- ---- the start of a good value
+
+module _ (s starts : List ℕ) (end slot : ℕ) where
+  pub value-start : slot < 11 → getD (valuesOf s starts end) slot 0 ≡ goodStart s end slot (getD starts slot 0)
+  unfolding valuesOf
+  value-start h = by-slot-at (λ (k : ℕ). goodStart s end k (getD starts k 0)) slot h
+
+  pub value-past : 11 ≤ slot → length (valuesOf s starts end) ≤ slot
+  unfolding valuesOf
+  value-past h = rw (by-slot-long (λ (k : ℕ). goodStart s end k (getD starts k 0))) h
 
 module _ (s : List ℕ) (end slot at : ℕ) where
   pub good-none : (eqb slot 0 || eqb at 0) ≡ true → 0 ≡ goodStart s end slot at
