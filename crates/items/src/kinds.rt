@@ -1,40 +1,67 @@
 // What rules say of one item, without a word on walks or reports.
+use crate::extensions::is_out_of_place;
+use crate::extensions::is_unwanted;
+use crate::lists::has_arc;
+use crate::lists::is_crowded;
+use crate::server::has_underscore;
+use crate::server::is_not_http;
+use crate::server::is_other_purpose;
 use der::Head;
 use profiles::Profile;
 ghost use mathlib.Core.Path.{_≡_};
-ghost use Rattle.items.specs.Kinds.{breaks, isCrowded, isNotHost};
+ghost use Rattle.items.specs.Kinds.{breaks};
 
 // What is asked of an item.
 pub enum Kind {
+    // an attribute with this arc below 2.5.4 (113, 114, 116, 118, 120)
+    Attribute(u8),
+    // an attribute that the profile does not allow (112)
+    Foreign,
+    // a C, O or ST that says another text (115, 117, 119)
+    OtherCountry,
+    OtherOrganization,
+    OtherState,
     // a SET with over one member (121)
     Crowded,
-    // a name that is no dNSName (412)
+    // an extension with an identifier seen before (361), one that has no business here (362), a critical one that the
+    // table does not judge (363)
+    Repeated,
+    Unwanted,
+    OutOfPlace,
+    // another purpose (408), another qualifier (411)
+    OtherPurpose,
+    OtherQualifier,
+    // a name that is no dNSName (412), a dNSName with an underscore (413), one that is no host name (414)
     NotHost,
+    Underscore,
+    NoHostName,
+    // a caIssuers entry that is not an HTTP URI (417)
+    NotHttp,
+    // a point with reasons or cRLIssuer (419)
+    Restricted,
 }
 
-// Rule 121 is broken by this SET.
-fn is_crowded(p: Profile, s: &[u8], h: Head) -> bool
-    ensures { λ r. ⌜ r ≡ isCrowded p (now (s .entry)) h ⌝ }
-{
-    let body = h.body;
-    let end = h.end;
-    let first = der::head_at(s, body, end);
-    !profiles::is_server(p) & ((body < end) & (first.end < end))
-}
-
-// Rule 412 is broken by this name.
-fn is_not_host(h: Head) -> bool
-    ensures { λ r. ⌜ r ≡ isNotHost h ⌝ }
-{
-    !(h.tag == 130)
-}
-
-// Whether an item breaks the rule of this kind. `mark` is what the rule knows of the list as a whole.
+// Whether an item breaks the rule of this kind. `mark` is what the rule knows of the list as a whole: for an extension
+// the start of the list.
 pub fn broken(kind: Kind, p: Profile, mark: usize, s: &[u8], h: Head) -> bool
     ensures { λ r. ⌜ r ≡ breaks kind p mark (now (s .entry)) h ⌝ }
 {
     match kind {
+        Kind::Attribute(arc) => has_arc(s, h, arc),
+        Kind::Foreign => attributes::is_foreign(p, s, h),
+        Kind::OtherCountry => attributes::is_other_country(s, h),
+        Kind::OtherOrganization => attributes::is_other_organization(s, h),
+        Kind::OtherState => attributes::is_other_state(s, h),
         Kind::Crowded => is_crowded(p, s, h),
-        Kind::NotHost => is_not_host(h),
+        Kind::Repeated => certificate::seen_before(s, mark, h),
+        Kind::Unwanted => is_unwanted(p, mark, s, h),
+        Kind::OutOfPlace => is_out_of_place(p, mark, s, h),
+        Kind::OtherPurpose => is_other_purpose(p, s, h),
+        Kind::OtherQualifier => values::other_qualifier(s, h),
+        Kind::NotHost => !names::is_dns_name(h),
+        Kind::Underscore => has_underscore(p, s, h),
+        Kind::NoHostName => names::no_host(s, h),
+        Kind::NotHttp => is_not_http(p, s, h),
+        Kind::Restricted => names::restricted(s, h),
     }
 }

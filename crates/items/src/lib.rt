@@ -1,7 +1,10 @@
 // Rules that judge the items of a list one by one: what they say of one item, and the loops that write their entries.
+mod extensions;
 mod firsts;
 mod kinds;
+mod lists;
 mod loops;
+mod server;
 
 pub use firsts::first;
 pub use firsts::first_within;

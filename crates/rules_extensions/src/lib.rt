@@ -22,6 +22,15 @@ pub fn extension_rules(
     ensures { λ r. ⌜ Put (extensionFindings p (now (s .entry)) c (now (starts .entry)) (now (values .entry))) n (now (room .entry)) r (now (room .exit)) ⌝ }
 {
     let missing = slots::over_slots(room, n, Question::Missing, p, s, c, starts, values);
-    let criticality = slots::over_slots(room, missing, Question::Criticality, p, s, c, starts, values);
+    let criticality = slots::over_slots(
+        room,
+        missing,
+        Question::Criticality,
+        p,
+        s,
+        c,
+        starts,
+        values,
+    );
     slots::over_slots(room, criticality, Question::Value, p, s, c, starts, values)
 }

@@ -37,7 +37,14 @@ fn is_missing(p: Profile, starts: &[usize], slot: usize) -> bool
 }
 
 // 300+s
-fn missing(room: &mut [u8], n: usize, p: Profile, c: Certificate, starts: &[usize], slot: usize) -> usize
+fn missing(
+    room: &mut [u8],
+    n: usize,
+    p: Profile,
+    c: Certificate,
+    starts: &[usize],
+    slot: usize,
+) -> usize
     requires { ⌜ slot ≤ 10 ⌝ }
     ensures { λ r. ⌜ Put (rule300 p c (now (starts .entry)) slot) n (now (room .entry)) r (now (room .exit)) ⌝ }
 {

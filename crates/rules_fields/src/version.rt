@@ -13,7 +13,12 @@ fn is_v3(s: &[u8], version: Head) -> bool
 {
     if version.tag == 0xA0 {
         let number = certificate::first_in(s, version);
-        return octets::equals(s, number.body, octets::minus(number.end, number.body), b"\x02");
+        return octets::equals(
+            s,
+            number.body,
+            octets::minus(number.end, number.body),
+            b"\x02",
+        );
     }
     false
 }

@@ -1,8 +1,8 @@
 -- `items::is_crowded` meets its contract. Assumes nothing.
 use borrow.Author.Needs.{needs}
 use Rattle.items.proofs.Laws.Kinds.{crowded-law}
-use Rattle.items.proofs.kinds.is_crowded.Statement.{statement}
-use Rattle.items.proofs.kinds.is_crowded.Tie as tie
+use Rattle.items.proofs.lists.is_crowded.Statement.{statement}
+use Rattle.items.proofs.lists.is_crowded.Tie as tie
 
 head-at-requires : tie.Need-head-at-requires
 head-at-requires c κs = search needs
