@@ -2,3 +2,4 @@
 pub mod Fields
 pub mod Extensions
 pub mod Slots
+pub mod Inside

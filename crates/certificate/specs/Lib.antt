@@ -4,3 +4,6 @@ pub mod Fields
 pub mod Key
 pub mod Extensions
 pub mod Slots
+pub mod Issuer
+pub mod Inside
+pub mod Named

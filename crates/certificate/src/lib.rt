@@ -1,6 +1,7 @@
 // What an accepted certificate says: where its fields are, and what the rules ask of more than one of them.
 mod extensions;
 mod fields;
+mod issuer;
 mod key;
 mod members;
 mod slots;
@@ -13,6 +14,8 @@ pub use extensions::seen_before;
 pub use extensions::slot_of;
 pub use fields::Certificate;
 pub use fields::read;
+pub use issuer::Issuer;
+pub use issuer::read_issuer;
 pub use key::Key;
 pub use key::KeyKind;
 pub use key::key_of;

@@ -50,7 +50,7 @@ pub fn first_extensions(s: &[u8], list: Head) -> [usize; 11]
 }
 
 // The start of the value of the Extension that starts at `at`, in a list that ends at `end`, if it passes 340+slot.
-fn good_start(s: &[u8], end: usize, slot: usize, at: usize) -> usize
+pub fn good_start(s: &[u8], end: usize, slot: usize, at: usize) -> usize
     ensures { λ r. ⌜ r ≡ goodStart (now (s .entry)) end slot at ⌝ }
 {
     if (slot == 0) | (at == 0) {
@@ -79,7 +79,7 @@ pub fn good_values(s: &[u8], starts: &[usize], end: usize) -> [usize; 11]
 }
 
 // The OCTET STRING that starts at `at`.
-fn holder_at(s: &[u8], at: usize) -> Head
+pub fn holder_at(s: &[u8], at: usize) -> Head
     ensures { λ r. ⌜ r ≡ holderAt (now (s .entry)) at ⌝ }
 {
     if at == 0 {

@@ -16,7 +16,9 @@ use Rattle.times.specs.Reads.{allDigits, digitsAndZ, dateAt, ifReal, timeOf}
 use Rattle.asn.specs.Grammar.{fits}
 use Rattle.asn.specs.Module.{certificate, keyUsage, judged, valueOf}
 use Rattle.asn.specs.Answers.{certificateVerdict, valueOk}
+use Rattle.values.specs.Usage.{anyBelow, otherBits, otherUsage}
+use Rattle.values.specs.Policies.{isBelow}
 
 pub examples : map (λ (e : Example). answer (e .asked)) table ≡ map (λ (e : Example). e .answered) table
-unfolding answer table ascii yearOf isWithin stretchSoundness soundness first elementsOf elementOk primitiveOk arcsOk ascendFrom octetsLe headOf childrenOf childrenBy octetsFrom numberFrom integerOf timeOf ifReal dateAt digitsAndZ allDigits dateOk momentOf secondsOf daysOf beforeYear beforeMonth certificateVerdict valueOk fits certificate keyUsage judged valueOf
+unfolding answer table ascii yearOf isWithin stretchSoundness soundness first elementsOf elementOk primitiveOk arcsOk ascendFrom octetsLe headOf childrenOf childrenBy octetsFrom numberFrom integerOf timeOf ifReal dateAt digitsAndZ allDigits dateOk momentOf secondsOf daysOf beforeYear beforeMonth certificateVerdict valueOk fits certificate keyUsage judged valueOf isBelow otherUsage otherBits anyBelow
 examples = refl

@@ -1,5 +1,5 @@
 -- The examples of document 01, "Examples on the edge", that are marked P. Each row has the paper's number, what it asks and what it answers.
--- P8 and P12, and P11's rule 405, join with the layers that they speak of: a new kind of question is a constructor and a line of `answer`.
+-- P12 joins with the layer that it speaks of: a new kind of question is a constructor and a line of `answer`.
 use mathlib.Core.Bool.{Bool, true, false}
 use mathlib.Core.List.{List, [], _∷_}
 use Prim.Native.Nat.{ℕ}
@@ -15,6 +15,8 @@ use Rattle.times.specs.Reads.{timeOf}
 use Rattle.times.specs.Validity.{dateOf, withinDaysOf}
 use Rattle.times.specs.declared.reading.Reading.{Reading}
 use Rattle.times.specs.declared.reading.Reading.the-variants.{Is, Bad}
+use Rattle.values.specs.Usage.{otherUsage}
+use Rattle.values.specs.Policies.{isBelow, federalArc}
 use Rattle.asn.specs.Answers.{certificateVerdict, refusalNumber as formNumber, refusalPlace as formPlace, valueOk}
 
 pub data Question : Type 0 where
@@ -30,6 +32,10 @@ pub data Question : Type 0 where
   within : ℕ → String → String → Question
   -- a slot of the table of extensions and a value: is it of its type?
   value : ℕ → List ℕ → Question
+  -- the contents of a policy's identifier: is it below the arc of rule 409?
+  below : List ℕ → Question
+  -- the weight of the bit that is allowed besides digitalSignature and a key usage: does it break 405?
+  usage : ℕ → List ℕ → Question
 
 pub data Answer : Type 0 where
   -- a refusal by number and place; number 0 is none
@@ -61,6 +67,8 @@ answer (integer s) = number (integerOf (contentsOf s (headOf s 0 (length s))))
 answer (year text) = yearOf (timeOf 23 (ascii text))
 answer (within days a b) = isWithin days (timeOf 23 (ascii a)) (timeOf 23 (ascii b))
 answer (value slot s) = says (valueOk s slot 0 (length s))
+answer (below s) = says (isBelow federalArc s)
+answer (usage allowed s) = says (otherUsage s (headOf s 0 (length s)) allowed)
 
 pub record Example : Type 0 where
   pub paper : ℕ
@@ -73,7 +81,7 @@ P n q a = record { paper = n; asked = q; answered = a }
 abbrev sound : Answer
 sound = refusal 0 0
 
--- P10: "keeps 111 for S" is within 395 days
+-- P10: "keeps 111 for S" is within 395 days. P11: with RSA keyEncipherment is allowed, of weight 32, and with EC keyAgreement, of weight 8.
 unfoldable pub table : List Example
 table =
     P 1 (encoding (0x30 ∷ 0x00 ∷ [])) sound
@@ -88,10 +96,14 @@ table =
     ∷ P 5 (integer (0x02 ∷ 0x01 ∷ 0x80 ∷ [])) (number (negsuc 127))
     ∷ P 6 (encoding (0x30 ∷ 0x03 ∷ 0x01 ∷ 0x01 ∷ 0x01 ∷ [])) (refusal 4 2)
     ∷ P 7 (encoding (0x31 ∷ 0x06 ∷ 0x02 ∷ 0x01 ∷ 0x02 ∷ 0x02 ∷ 0x01 ∷ 0x01 ∷ [])) (refusal 5 0)
+    ∷ P 8 (below (0x60 ∷ 0x86 ∷ 0x48 ∷ 0x01 ∷ 0x65 ∷ 0x03 ∷ 0x02 ∷ 0x01 ∷ 0x03 ∷ [])) (says false)
+    ∷ P 8 (below (0x60 ∷ 0x86 ∷ 0x48 ∷ 0x01 ∷ 0x65 ∷ 0x03 ∷ 0x02 ∷ 0x01 ∷ 0x03 ∷ 0x0D ∷ [])) (says true)
     ∷ P 9 (year "491231235959Z") (number (pos 2049))
     ∷ P 9 (year "500101000000Z") (number (pos 1950))
     ∷ P 10 (within 395 "240101000000Z" "250130000000Z") (says true)
     ∷ P 10 (within 395 "240101000000Z" "250130000001Z") (says false)
     ∷ P 11 (value 4 (0x03 ∷ 0x02 ∷ 0x05 ∷ 0xA0 ∷ [])) (says true)
+    ∷ P 11 (usage 32 (0x03 ∷ 0x02 ∷ 0x05 ∷ 0xA0 ∷ [])) (says false)
+    ∷ P 11 (usage 8 (0x03 ∷ 0x02 ∷ 0x05 ∷ 0xA0 ∷ [])) (says true)
     ∷ P 11 (value 4 (0x03 ∷ 0x02 ∷ 0x00 ∷ 0x80 ∷ [])) (says false)
     ∷ []

@@ -3,12 +3,12 @@ use mathlib.Core.Bool.{Bool, true, false, not, _&&_}
 use mathlib.Core.List.{List, [], _∷_}
 use Prim.Native.Nat.{ℕ}
 use lib.Dec.{eqb}
+use Rattle.items.specs.declared.kinds.Kind.{Kind}
+use Rattle.items.specs.declared.kinds.Kind.the-variants.{Crowded, NotHost}
 use Rattle.der.specs.Header.{childrenOf}
 use Rattle.der.specs.declared.header.Head.{Head}
 use Rattle.profiles.specs.Fields.{isServer}
 use Rattle.profiles.specs.declared.fields.Profile.{Profile}
-use Rattle.items.specs.declared.kinds.Kind.{Kind}
-use Rattle.items.specs.declared.kinds.Kind.the-variants.{Crowded, NotHost}
 
 -- more than one
 abbrev pub several : List Head → Bool

@@ -3,3 +3,5 @@ pub mod Tests
 pub mod Any
 pub mod Names
 pub mod Hosts
+pub mod Uris
+pub mod Points

@@ -4,11 +4,11 @@ use mathlib.Core.Bool.{Bool, true, false, cond, not, _&&_, _||_}
 use Prim.Native.Nat.{ℕ}
 use lib.ListN.{length}
 use lib.Dec.{leb, eqb}
-use Rattle.der.specs.Contents.{lastOf, contentsOf}
-use Rattle.der.specs.declared.header.Head.{Head}
 use Rattle.names.specs.Names.{isDnsName}
 use Rattle.names.specs.declared.hosts.Host.{Host}
 use Rattle.names.specs.declared.hosts.Host.the-variants.{Plain, Neither}
+use Rattle.der.specs.Contents.{lastOf, contentsOf}
+use Rattle.der.specs.declared.header.Head.{Head}
 
 unfoldable pub hasOctet : ℕ → List ℕ → Bool
 hasOctet x [] = false

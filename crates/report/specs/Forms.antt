@@ -1,11 +1,12 @@
 -- The two forms of rules on lists: "'Each' gives one entry an item, without a verb an offending one; 'one X' gives an entry at the subject
 -- name if none, and at each further X" (document 01, "Rules on fields").
 use mathlib.Core.List.{List, [], _∷_, _++_, map}
-use mathlib.Core.Bool.{Bool, cond, _&&_}
+use mathlib.Core.Bool.{Bool, true, cond, not, _&&_}
 use Prim.Native.Nat.{ℕ}
-use lib.Dec.{ltb}
+use lib.Dec.{leb}
 use Rattle.report.specs.declared.sink.Entry.{Entry}
 use Rattle.report.specs.Entries.{entryAt}
+use Rattle.der.specs.Header.{brokenHead}
 use Rattle.der.specs.declared.header.Head.{Head}
 
 -- the items that a test picks, in their order
@@ -26,16 +27,24 @@ further rule name (h ∷ hs) = map (entryAt rule) hs
 abbrev pub one : ℕ → (Head → Bool) → Head → List Head → List Entry
 one rule isX name hs = further rule name (filter isX hs)
 
+-- there is no item that the test picks
+unfoldable pub noneOf : (Head → Bool) → List Head → Bool
+noneOf test [] = true
+noneOf test (h ∷ hs) = not (test h) && noneOf test hs
+
 -- ---- "one X" as a rule of the form "each"
 
--- the start of the first X, 0 if there is none
-unfoldable pub firstStart : (Head → Bool) → List Head → ℕ
-firstStart isX [] = 0
-firstStart isX (h ∷ hs) = cond (isX h) (h .at) (firstStart isX hs)
+-- the first X, and if there is none an empty element at the end of the list
+unfoldable pub firstOf : (Head → Bool) → ℕ → List Head → Head
+firstOf isX end [] = brokenHead end end
+firstOf isX end (h ∷ hs) = cond (isX h) h (firstOf isX end hs)
 
--- an X that starts behind a place
+abbrev pub isEmpty : Head → Bool
+isEmpty h = leb (h .end) (h .at)
+
+-- an X that starts at a place or behind it
 abbrev pub isBehind : (Head → Bool) → ℕ → Head → Bool
-isBehind isX place h = isX h && ltb place (h .at)
+isBehind isX place h = isX h && leb place (h .at)
 
 -- ---- several rules
 

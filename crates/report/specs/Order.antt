@@ -25,15 +25,15 @@ pub record Ordered (from to : ℕ) (es : List Entry) : Type 0 where
   pub rules : (e : Entry) → In e es → (from ≤ e .rule) × (e .rule < to)
   pub rising : Rising es
 
--- the items' starts rise
+-- each item has an octet at least, and ends before those behind it start
 pub data Apart : List Head → Type 0 where
   no-items : Apart []
-  more-items : {h : Head} {hs : List Head} → ((g : Head) → In g hs → h .at < g .at) → Apart hs → Apart (h ∷ hs)
+  more-items : {h : Head} {hs : List Head} → h .at < h .end → ((g : Head) → In g hs → h .end ≤ g .at) → Apart hs → Apart (h ∷ hs)
 
 -- each item has an octet at least, and lies in the octets from `from` on and before `to`
 abbrev pub Between : ℕ → ℕ → List Head → Type 0
 Between from to hs = (h : Head) → In h hs → (from ≤ h .at) × (h .at < h .end) × (h .end ≤ to)
 
 -- each entry's place lies in the octets before limit
-abbrev pub Inside : ℕ → List Entry → Type 0
-Inside limit es = (e : Entry) → In e es → e .place .start + e .place .len ≤ limit
+abbrev pub Inside : List Entry → ℕ → Type 0
+Inside es limit = (e : Entry) → In e es → e .place .start + e .place .len ≤ limit

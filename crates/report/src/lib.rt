@@ -2,7 +2,7 @@
 mod sink;
 
 pub use sink::Entry;
-pub use sink::fits;
+pub use sink::has_room;
 pub use sink::note;
 pub use sink::put;
 pub use sink::put_if;

@@ -24,7 +24,7 @@ const WIDTH: usize = 6;
 const CAP: usize = 2305843009213693952;
 
 // Whether so many entries do not exceed room of so many octets.
-pub fn fits(count: usize, room: usize) -> bool
+pub fn has_room(count: usize, room: usize) -> bool
     ensures { λ r. ⌜ r ≡ leb (width * count) room ⌝ }
 {
     count <= room / WIDTH

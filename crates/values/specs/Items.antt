@@ -31,6 +31,10 @@ secondItem s v = secondOf (v .end) (itemsOf s v)
 unfoldable pub contentsAre : List ℕ → List ℕ → Head → Bool
 contentsAre s text h = sameBy exactly (contentsOf s h) text
 
+-- the OBJECT IDENTIFIER that an element begins with is this one
+abbrev pub identifierIs : List ℕ → List ℕ → Head → Bool
+identifierIs s text h = contentsAre s text (firstItem s h)
+
 -- any of the elements passes the test
 unfoldable pub anyOf : (Head → Bool) → List Head → Bool
 anyOf test [] = false

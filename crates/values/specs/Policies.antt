@@ -5,7 +5,7 @@ use mathlib.Core.List.{List, [], _∷_}
 use mathlib.Core.Bool.{Bool, true, false, not, _&&_}
 use Prim.Native.Nat.{ℕ}
 use lib.Dec.{eqb}
-use Rattle.values.specs.Items.{itemsOf, firstItem, secondItem, contentsAre, anyOf}
+use Rattle.values.specs.Items.{itemsOf, firstItem, secondItem, identifierIs, anyOf}
 use Rattle.der.specs.Contents.{contentsOf}
 use Rattle.der.specs.declared.header.Head.{Head}
 
@@ -30,7 +30,7 @@ policyBelow s h = isBelow federalArc (contentsOf s (firstItem s h))
 
 -- whether it names this policy of the Forum
 abbrev pub policyIs : List ℕ → ℕ → Head → Bool
-policyIs s last h = contentsAre s (forumPolicy last) (firstItem s h)
+policyIs s last h = identifierIs s (forumPolicy last) h
 
 -- 409 "a policy below 2.16.840.1.101.3.2.1.3" is broken: there is none
 unfoldable pub noneBelow : List ℕ → Head → Bool
@@ -50,4 +50,4 @@ practiceStatement = 0x2B ∷ 6 ∷ 1 ∷ 5 ∷ 5 ∷ 7 ∷ 2 ∷ 1 ∷ []
 
 -- 411 "each qualifier other than 1.3.6.1.5.5.7.2.1": the PolicyQualifierInfo h is one
 unfoldable pub otherQualifier : List ℕ → Head → Bool
-otherQualifier s h = not (contentsAre s practiceStatement (firstItem s h))
+otherQualifier s h = not (identifierIs s practiceStatement h)

@@ -3,7 +3,7 @@ use der::Head;
 ghost use mathlib.Core.Path.{_≡_};
 ghost use Rattle.octets.specs.Same.{sameBy, exactly};
 ghost use Rattle.der.specs.Contents.{contentsOf};
-ghost use Rattle.values.specs.Items.{firstItem, secondItem, contentsAre};
+ghost use Rattle.values.specs.Items.{firstItem, secondItem, contentsAre, identifierIs};
 
 // The first element that v holds, or one that is not sound if there is none.
 pub fn first_item(s: &[u8], v: Head) -> Head
@@ -27,6 +27,13 @@ pub fn contents_are(s: &[u8], text: &[u8], h: Head) -> bool
 {
     let body = h.body;
     octets::equals(s, body, octets::minus(h.end, body), text)
+}
+
+// Whether h begins with this OBJECT IDENTIFIER.
+pub fn identifier_is(s: &[u8], text: &[u8], h: Head) -> bool
+    ensures { λ r. ⌜ r ≡ identifierIs (now (s .entry)) (now (text .entry)) h ⌝ }
+{
+    contents_are(s, text, first_item(s, h))
 }
 
 // Whether the contents of a in s are those of b in t.

@@ -1,6 +1,5 @@
 // Rules 409 to 411: certificate policies and their qualifiers.
-use crate::items::contents_are;
-use crate::items::first_item;
+use crate::items::identifier_is;
 use crate::items::second_item;
 use crate::wanted::Wanted;
 use crate::wanted::any_wanted;
@@ -33,5 +32,5 @@ pub fn qualifiers_of(s: &[u8], policy: Head) -> Head
 pub fn other_qualifier(s: &[u8], h: Head) -> bool
     ensures { λ r. ⌜ r ≡ otherQualifier (now (s .entry)) h ⌝ }
 {
-    !contents_are(s, b"\x2b\x06\x01\x05\x05\x07\x02\x01", first_item(s, h))
+    !identifier_is(s, b"\x2b\x06\x01\x05\x05\x07\x02\x01", h)
 }

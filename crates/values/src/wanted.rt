@@ -1,6 +1,7 @@
 // One search for what rules 407, 409 and 410 want among the items of a value.
 use crate::items::contents_are;
 use crate::items::first_item;
+use crate::items::identifier_is;
 use der::Head;
 ghost use mathlib.Core.Path.{_≡_};
 ghost use Rattle.values.specs.Items.{itemsOf, anyOf};
@@ -18,15 +19,15 @@ pub enum Wanted {
 pub fn purpose_is(s: &[u8], last: u8, h: Head) -> bool
     ensures { λ r. ⌜ r ≡ purposeIs (now (s .entry)) last h ⌝ }
 {
-    let text = [0x2b, 6, 1, 5, 5, 7, 3, last];
-    contents_are(s, &text, h)
+    let purpose = [0x2b, 6, 1, 5, 5, 7, 3, last];
+    contents_are(s, &purpose, h)
 }
 
 fn policy_is(s: &[u8], last: u8, h: Head) -> bool
     ensures { λ r. ⌜ r ≡ policyIs (now (s .entry)) last h ⌝ }
 {
-    let text = [0x67, 0x81, 0x0c, 1, 2, last];
-    contents_are(s, &text, first_item(s, h))
+    let policy = [0x67, 0x81, 0x0c, 1, 2, last];
+    identifier_is(s, &policy, h)
 }
 
 fn policy_below(s: &[u8], h: Head) -> bool

@@ -2,7 +2,9 @@
 --     by-slot-at, by-slot-is                 the number of a slot; a list of 11 numbers, each as it should be
 --     slot-below                             a slot is below 11
 --     filled-none, filled-next, filled-all   the starts of first extensions, filled in one extension after the other
+--     start-at                               the start of the first extension in one slot
 --     valued-none, valued-next, valued-all   numbers filled in slot by slot
+--     value-start, value-past                the number of a slot, and past the slots
 --     good-none, good-some                   the start of a value, by its tests
 -- Assumes nothing.
 use mathlib.Core.Path.{_≡_, refl, sym, ap, _∙_}
@@ -16,7 +18,7 @@ use lib.Seq.{getD-set-same, getD-set-other, ext-getD}
 use lib.Dec.{eqb}
 use borrow.Author.Tests.{eqb-true, eqb-false}
 use Rattle.certificate.specs.Extensions.{identifiers, positionFrom, slotFor, slotOf, extensionOf}
-use Rattle.certificate.specs.Slots.{numbersFrom, bySlot, orElse, startIn, startsOf, goodStart}
+use Rattle.certificate.specs.Slots.{numbersFrom, bySlot, orElse, startIn, startsOf, goodStart, valuesOf}
 use Rattle.certificate.specs.declared.extensions.Extension.{Extension}
 use Rattle.octets.specs.Same.{sameBy, exactly}
 use Rattle.der.specs.Header.{headOf, childrenOf}
@@ -115,6 +117,11 @@ unfolding startsOf startIn
 filled-all s all starts i end h f =
     by-slot-is (startIn s all) starts (f .long) (λ slot b. sym (f .each slot b ∙ (ap (λ (l : List Head). orElse (getD starts slot 0) (startIn s l slot)) (children-done s i end h) ∙ else-none (getD starts slot 0))))
 
+-- the first extension of one slot
+pub start-at : (s : List ℕ) (hs : List Head) (slot : ℕ) → slot < 11 → getD (startsOf s hs) slot 0 ≡ startIn s hs slot
+unfolding startsOf
+start-at s hs slot h = by-slot-at (startIn s hs) slot h
+
 -- ---- slot after slot
 
 -- the numbers of the slots below k are filled in
@@ -147,6 +154,15 @@ pub valued-all : (f : ℕ → ℕ) (values : List ℕ) (k : ℕ) → 11 ≤ k �
 valued-all f values k h v = by-slot-is f values (v .long) (λ slot b. v .each slot (omega arith))
 
 -- ---- the start of a good value
+
+module _ (s starts : List ℕ) (end slot : ℕ) where
+  pub value-start : slot < 11 → getD (valuesOf s starts end) slot 0 ≡ goodStart s end slot (getD starts slot 0)
+  unfolding valuesOf
+  value-start h = by-slot-at (λ (k : ℕ). goodStart s end k (getD starts k 0)) slot h
+
+  pub value-past : 11 ≤ slot → length (valuesOf s starts end) ≤ slot
+  unfolding valuesOf
+  value-past h = rw (by-slot-long (λ (k : ℕ). goodStart s end k (getD starts k 0))) h
 
 module _ (s : List ℕ) (end slot at : ℕ) where
   pub good-none : (eqb slot 0 || eqb at 0) ≡ true → 0 ≡ goodStart s end slot at

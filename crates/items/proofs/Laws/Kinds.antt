@@ -1,18 +1,18 @@
 -- What rules say of one item, by what is read of it.
 --     crowded-law       a SET has over one member if its first one ends before it does
 -- Assumes nothing.
-use mathlib.Core.Path.{_≡_, refl, sym, ap, _∙_}
+use mathlib.Core.Path.{_≡_, refl, sym, ap}
 use mathlib.Core.Bool.{Bool, true, false, not, _&&_}
-use mathlib.Core.List.{List, [], _∷_}
-use Prim.Native.Nat.{ℕ, _≤_, _<_}
+use mathlib.Core.List.{List, _∷_}
+use Prim.Native.Nat.{ℕ}
 use lib.Dec.{ltb}
 use borrow.Author.Tests.{ltb-true, ltb-false}
+use Rattle.items.specs.Kinds.{several, isCrowded}
 use Rattle.der.specs.Header.{headOf, childrenOf}
 use Rattle.der.specs.declared.header.Head.{Head}
 use Rattle.der.proofs.Laws.Children.{children-done, children-next}
 use Rattle.profiles.specs.Fields.{isServer}
 use Rattle.profiles.specs.declared.fields.Profile.{Profile}
-use Rattle.items.specs.Kinds.{several, isCrowded}
 
 -- behind the first
 some-left : (s : List ℕ) (h : Head) (at end : ℕ) (b : Bool) → ltb at end ≡ b → several (h ∷ childrenOf s at end) ≡ b

@@ -3,14 +3,14 @@
 --     any-next      the first, which is h, or one of those after it
 --     any-found, any-missed      by what the test says of h
 -- Assumes nothing.
-use mathlib.Core.Path.{_≡_, refl, sym, ap, _∙_}
+use mathlib.Core.Path.{_≡_, ap, _∙_}
 use mathlib.Core.List.{List}
 use mathlib.Core.Bool.{Bool, true, false, _||_}
 use Prim.Native.Nat.{ℕ, _≤_, _<_}
+use Rattle.names.specs.Names.{anyOf}
 use Rattle.der.specs.Header.{headOf, childrenOf}
 use Rattle.der.specs.declared.header.Head.{Head}
 use Rattle.der.proofs.Laws.Children.{children-done, children-next}
-use Rattle.names.specs.Names.{anyOf}
 
 pub any-done : (test : Head → Bool) (s : List ℕ) (at end : ℕ) → end ≤ at → anyOf test (childrenOf s at end) ≡ false
 unfolding anyOf

@@ -8,18 +8,17 @@
 use mathlib.Core.Path.{_≡_, refl, sym, ap, _∙_}
 use mathlib.Core.List.{List, [], _∷_, _++_}
 use mathlib.Core.Bool.{Bool, true, false, cond, not, _&&_, _||_}
-use Prim.Native.Nat.{ℕ, zero, suc, _+_, _-_, _≤_, _<_}
+use Prim.Native.Nat.{ℕ, suc, _+_, _-_, _≤_, _<_}
 use native.Mathlib.Omega.{arith}
 use lib.ListN.{length}
 use lib.Dec.{leb, ltb, eqb}
 use borrow.Author.Tests.{eq-eqb, ne-eqb, eqb-true, le-leb, lt-leb, ltb-true, ltb-false}
-use Rattle.octets.specs.Octets.{octetAt, octetsFrom}
-use Rattle.octets.proofs.Laws.Octets.{octets-done, octets-next, octets-long}
-use Rattle.octets.proofs.Laws.Tests.{leb-same}
-use Rattle.der.specs.Contents.{lastOf}
 use Rattle.names.specs.Hosts.{hasOctet, labelOctet, labelOctets, labelOk, labelsFrom, labelsOf, labelsOk, hostOf}
 use Rattle.names.specs.Scanning.{mayEnd, mayGrow, mayFollow, sizeAfter, scanned}
 use Rattle.names.specs.declared.hosts.Host.the-variants.{Plain, Neither}
+use Rattle.octets.specs.Octets.{octetAt, octetsFrom}
+use Rattle.octets.proofs.Laws.Octets.{octets-done, octets-next, octets-long}
+use Rattle.der.specs.Contents.{lastOf}
 
 -- ---- octets searched for x
 

@@ -5,10 +5,10 @@
 use mathlib.Core.Path.{_≡_, refl, sym, ap, _∙_}
 use mathlib.Core.List.{List}
 use mathlib.Core.Bool.{Bool, true, false, _&&_, _||_}
-use Prim.Native.Nat.{ℕ, _+_, _-_, _≤_, _<_}
-use lib.ListN.{length}
+use Prim.Native.Nat.{ℕ, _-_, _<_}
 use lib.Dec.{eqb}
 use borrow.Author.Tests.{eqb-true, eqb-false}
+use Rattle.names.specs.Names.{isNamed, someNamed}
 use Rattle.octets.specs.Octets.{octetsFrom}
 use Rattle.octets.specs.Same.{sameBy, lowerCase}
 use Rattle.octets.proofs.Laws.Octets.{octets-long}
@@ -16,7 +16,6 @@ use Rattle.octets.proofs.Laws.Same.{same-length}
 use Rattle.octets.proofs.Laws.Tests.{and-l, and-r}
 use Rattle.der.specs.Header.{headOf, childrenOf}
 use Rattle.der.specs.declared.header.Head.{Head}
-use Rattle.names.specs.Names.{isNamed, someNamed}
 use Rattle.names.proofs.Laws.Any.{any-next}
 
 -- octets of different lengths are not the same

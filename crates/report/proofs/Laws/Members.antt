@@ -5,6 +5,7 @@
 --     noted-in          the entry of a rule on one element
 --     each-in           of "each": exactly the entries at items that the test picks
 --     one-in            of "one X": at the name if there is no X, and at each X behind another
+--     none-in           no item that a test picks: it picks none of them
 --     further-in        an X behind another is an X
 --     filter-in, map-in, from-map      items that a test picks; entries at items
 -- Assumes nothing.
@@ -12,14 +13,16 @@ use mathlib.Core.Path.{_≡_, refl, sym, ap, subst, _∙_}
 use mathlib.Core.List.{List, [], _∷_, _++_, map, List·Memᴰ·not-nil, List·Memᴰ·cases-cons, List·Memᴰ·append-cases, Memᴰ·append-left, Memᴰ·append-right, List·Memᴰ·eq-of-singleton}
 use mathlib.Core.List.List·Memᴰ.{List·Memᴰ·head, List·Memᴰ·tail}
 use mathlib.Core.Logic.{_↔_, _⊎_, inl, inr, ⊎-elim}
-use mathlib.Core.Bool.{Bool, true, false, cond, false≢true}
+use mathlib.Core.Bool.{Bool, true, false, cond, not, false≢true}
 use Prim.Native.Nat.{ℕ}
+use borrow.Author.Tests.{not-true}
 use Rattle.report.specs.declared.sink.Entry.{Entry}
 use Rattle.report.specs.Entries.{entryAt, entryIf, noted}
-use Rattle.report.specs.Forms.{filter, each, further, one, onlyIf, joined}
+use Rattle.report.specs.Forms.{filter, each, further, one, onlyIf, joined, noneOf}
 use Rattle.report.specs.Order.{In}
 use Rattle.report.specs.Members.{Broken, Further, Missing, Repeated}
 use Rattle.report.specs.Members.Further.{first, later}
+use Rattle.octets.proofs.Laws.Tests.{and-l, and-r}
 use Rattle.der.specs.declared.header.Head.{Head}
 
 -- ---- lists of entries
@@ -77,6 +80,19 @@ module _ (test : Head → Bool) where
   unfolding filter
   filter-none [] f = refl
   filter-none (h ∷ hs) f = rw (f h (List·Memᴰ·head refl)) (filter-none hs (λ g m. f g (List·Memᴰ·tail m)))
+
+  no-one : {h : Head} {hs : List Head} → In h hs → noneOf test hs ≡ true → test h ≡ false
+  unfolding noneOf
+  no-one (List·Memᴰ·head {x = x} {xs = xs} e) n = ap test e ∙ not-true (test x) (and-l (not (test x)) (noneOf test xs) n)
+  no-one (List·Memᴰ·tail {x = x} {xs = xs} m) n = no-one m (and-r (not (test x)) (noneOf test xs) n)
+
+  all-not : (hs : List Head) → ((h : Head) → In h hs → test h ≡ false) → noneOf test hs ≡ true
+  unfolding noneOf
+  all-not [] f = refl
+  all-not (h ∷ hs) f = rw (f h (List·Memᴰ·head refl)) (all-not hs (λ g m. f g (List·Memᴰ·tail m)))
+
+  pub none-in : (hs : List Head) → (noneOf test hs ≡ true) ↔ ((h : Head) → In h hs → test h ≡ false)
+  none-in hs = (λ n h m. no-one m n, all-not hs)
 
 -- the entries at items
 module _ (rule : ℕ) where

@@ -69,35 +69,35 @@ only-ordered {from} {to} false p = none-ordered from to (p .span)
 apart-filter : {hs : List Head} (test : Head → Bool) → Apart hs → Apart (filter test hs)
 unfolding filter
 apart-filter test no-items = no-items
-apart-filter test (more-items {h = h} {hs = hs} f r) = go (test h) (apart-filter test r)
+apart-filter test (more-items {h = h} {hs = hs} l f r) = go (test h) (apart-filter test r)
   where
     go : (b : Bool) → Apart (filter test hs) → Apart (cond b (h ∷ filter test hs) (filter test hs))
-    go true q = more-items (λ g m. f g (filter-in test hs g .0 m .0)) q
+    go true q = more-items l (λ g m. f g (filter-in test hs g .0 m .0)) q
     go false q = q
 
 rising-items : {hs : List Head} (rule : ℕ) → Apart hs → Rising (map (entryAt rule) hs)
 rising-items rule no-items = no-entries
-rising-items rule (more-items {h = h} {hs = hs} f r) = more-entries after (rising-items rule r)
+rising-items rule (more-items {h = h} {hs = hs} l f r) = more-entries after (rising-items rule r)
   where
     after : (e : Entry) → In e (map (entryAt rule) hs) → Before (entryAt rule h) e
     after e m =
         let p = from-map rule hs m in
         let q = p .2 in
-        let l = f (p .0) (p .1) in
+        let b = f (p .0) (p .1) in
         let k : e .place .start ≡ p .0 .at = ap (λ (d : Entry). d .place .start) q in
         inr (sym (ap (λ (d : Entry). d .rule) q), omega arith)
 
 rising-further : {hs : List Head} (rule : ℕ) (name : Head) → Apart hs → Rising (further rule name hs)
 unfolding further
 rising-further rule name no-items = more-entries (λ f m. absurd (List·Memᴰ·not-nil m)) no-entries
-rising-further rule name (more-items f r) = rising-items rule r
+rising-further rule name (more-items l f r) = rising-items rule r
 
 pub apart-join : {gs hs : List Head} {from mid to : ℕ} → Apart gs → Apart hs → Between from mid gs → Between mid to hs → Apart (gs ++ hs)
 apart-join no-items q k l = q
-apart-join {hs = hs} {mid = mid} {to = to} (more-items {h = h} {hs = gs} f r) q k l =
-    more-items (λ g m. ⊎-elim (f g) (after g) (List·Memᴰ·append-cases gs m)) (apart-join r q (λ g m. k g (List·Memᴰ·tail m)) l)
+apart-join {hs = hs} {mid = mid} {to = to} (more-items {h = h} {hs = gs} n f r) q k l =
+    more-items n (λ g m. ⊎-elim (f g) (after g) (List·Memᴰ·append-cases gs m)) (apart-join r q (λ g m. k g (List·Memᴰ·tail m)) l)
   where
-    after : (g : Head) → In g hs → h .at < g .at
+    after : (g : Head) → In g hs → h .end ≤ g .at
     after g m = let x = k h (List·Memᴰ·head refl) in let y = l g m in omega arith
 
 pub between-wider : {from to less more : ℕ} {hs : List Head} → less ≤ from → to ≤ more → Between from to hs → Between less more hs
@@ -120,10 +120,11 @@ module _ (s : List ℕ) (end : ℕ) where
 
   chain-apart : {at : ℕ} {hs : List Head} → Chain s end at hs → Apart hs
   chain-apart done = no-items
-  chain-apart (next {at = at} {hs = hs} l r) = more-items after (chain-apart r)
-    where
-      after : (g : Head) → In g hs → headOf s at end .at < g .at
-      after g m = let f = head-forward s at end l in let k = head-start s at end in let q = chain-between r g m in omega arith
+  chain-apart (next {at = at} {hs = hs} l r) =
+      let f = head-forward s at end l in
+      let k = head-start s at end in
+      let n : headOf s at end .at < headOf s at end .end = omega arith in
+      more-items n (λ g m. chain-between r g m .0) (chain-apart r)
 
   module _ (at : ℕ) where
     pub children-between : Between at end (childrenOf s at end)
@@ -174,29 +175,29 @@ module _ (rule to : ℕ) (l : rule < to) where
 
 -- ---- the forms of rules: bounds
 
-pub none-inside : (limit : ℕ) → Inside limit []
+pub none-inside : (limit : ℕ) → Inside [] limit
 none-inside limit e m = absurd (List·Memᴰ·not-nil m)
 
-pub join-inside : {limit : ℕ} (es fs : List Entry) → Inside limit es → Inside limit fs → Inside limit (es ++ fs)
+pub join-inside : {limit : ℕ} (es fs : List Entry) → Inside es limit → Inside fs limit → Inside (es ++ fs) limit
 join-inside es fs p q e m = ⊎-elim (p e) (q e) (List·Memᴰ·append-cases es m)
 
-pub only-inside : {limit : ℕ} (judged : Bool) (es : List Entry) → Inside limit es → Inside limit (onlyIf judged es)
+pub only-inside : {limit : ℕ} (judged : Bool) (es : List Entry) → Inside es limit → Inside (onlyIf judged es) limit
 only-inside judged es p e m = p e (only-in judged es e .0 m .1)
 
 at-item : (limit rule : ℕ) (h : Head) (e : Entry) → h .at ≤ h .end → h .end ≤ limit → e ≡ entryAt rule h → e .place .start + e .place .len ≤ limit
 at-item limit rule h e l k q = rw q (omega arith)
 
 module _ (limit rule : ℕ) where
-  pub noted-inside : (bad : Bool) (h : Head) → h .at ≤ h .end → h .end ≤ limit → Inside limit (noted rule bad h)
+  pub noted-inside : (bad : Bool) (h : Head) → h .at ≤ h .end → h .end ≤ limit → Inside (noted rule bad h) limit
   noted-inside bad h l k e m = at-item limit rule h e l k (noted-in rule bad h e .0 m .1)
 
-  pub each-inside : {hs : List Head} (from : ℕ) (bad : Head → Bool) → Between from limit hs → Inside limit (each rule bad hs)
+  pub each-inside : {hs : List Head} (from : ℕ) (bad : Head → Bool) → Between from limit hs → Inside (each rule bad hs) limit
   each-inside {hs} from bad f e m =
       let p = each-in rule bad hs e .0 m in
       let k = f (p .item) (p .among) in
       at-item limit rule (p .item) e (omega arith) (k .2) (p .entry)
 
-  pub one-inside : {hs : List Head} (from : ℕ) (isX : Head → Bool) (name : Head) → name .at ≤ name .end → name .end ≤ limit → Between from limit hs → Inside limit (one rule isX name hs)
+  pub one-inside : {hs : List Head} (from : ℕ) (isX : Head → Bool) (name : Head) → name .at ≤ name .end → name .end ≤ limit → Between from limit hs → Inside (one rule isX name hs) limit
   one-inside {hs} from isX name l k f e m = ⊎-elim missing repeated (one-in rule isX name hs e .0 m)
     where
       missing : Missing rule isX name hs e → e .place .start + e .place .len ≤ limit

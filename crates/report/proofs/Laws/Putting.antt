@@ -2,6 +2,7 @@
 --     tick-below, tick-cap           a count goes up by one, unless it has reached the cap
 --     put-in, put-out                one entry, written or left out
 --     put-picked, put-not            an entry by a test
+--     put-judged, put-unjudged       the entries of a rule that is judged under a condition
 --     put-noted                      an entry at an element
 --     nothing                        no entries
 --     _⨾_                            entries, and then others
@@ -21,7 +22,7 @@ use lib.Seq.{sets, drop-cons}
 use borrow.Author.Tests.{lt-ltb, le-ltb, le-leb, lt-leb}
 use Rattle.report.specs.declared.sink.Entry.{Entry}
 use Rattle.report.specs.Entries.{width, pairOf, octetsOf, entryIf, noted}
-use Rattle.report.specs.Forms.{joined}
+use Rattle.report.specs.Forms.{onlyIf, joined}
 use Rattle.report.specs.Putting.{cap, tick, putOne, counted, putAll, Put}
 use Rattle.octets.specs.Places.{placeFrom}
 use Rattle.octets.specs.declared.places.Place.{Place}
@@ -77,6 +78,13 @@ module _ {n r : ℕ} {room last : List ℕ} (e : Entry) (bad : Bool) where
 pub put-not : (e : Entry) (n : ℕ) (room : List ℕ) (bad : Bool) → bad ≡ false → Put (entryIf bad e) n room n room
 unfolding entryIf
 put-not e n room bad t = rw t (nothing n room)
+
+-- a rule that is judged under a condition
+pub put-judged : {n r : ℕ} {room last : List ℕ} (es : List Entry) (judged : Bool) → judged ≡ true → Put es n room r last → Put (onlyIf judged es) n room r last
+put-judged es judged t p = rw t p
+
+pub put-unjudged : (es : List Entry) (n : ℕ) (room : List ℕ) (judged : Bool) → judged ≡ false → Put (onlyIf judged es) n room n room
+put-unjudged es n room judged t = rw t (nothing n room)
 
 -- the place is the element's
 pub put-noted : {n r : ℕ} {room last : List ℕ} (rule : ℕ) (bad : Bool) (h : Head) (place : Place) → place ≡ placeFrom (h .at) (h .end) → Put (entryIf bad (record { rule = rule; place = place })) n room r last → Put (noted rule bad h) n room r last

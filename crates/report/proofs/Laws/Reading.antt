@@ -34,12 +34,12 @@ read-all (e ∷ es) rest f =
     rw (pair-back (e .rule) (k .0), pair-back (e .place .start) (k .1), pair-back (e .place .len) (k .2))
     (ap (λ (l : List Entry). e ∷ l) (read-all es rest (λ g m. f g (List·Memᴰ·tail m))))
 
-pub read-back : {from to limit : ℕ} {es : List Entry} (rest : List ℕ) → Ordered from to es → to ≤ 65536 → Inside limit es → limit < 65536 → decode (length es) (encode es ++ rest) ≡ es
+pub read-back : {from to limit : ℕ} {es : List Entry} (rest : List ℕ) → Ordered from to es → to ≤ 65536 → Inside es limit → limit < 65536 → decode (length es) (encode es ++ rest) ≡ es
 unfolding small
 read-back {from} {to} {limit} {es} rest o t i l = read-all es rest (λ e m. go e (o .rules e m) (i e m))
   where
     go : (e : Entry) → (from ≤ e .rule) × (e .rule < to) → e .place .start + e .place .len ≤ limit → (e .rule < 65536) × (e .place .start < 65536) × (e .place .len < 65536)
     go e r k = (omega arith, omega arith, omega arith)
 
-pub report-back : {from to limit : ℕ} {es : List Entry} (room : List ℕ) → Ordered from to es → to ≤ 65536 → Inside limit es → limit < 65536 → fits es room ≡ true → decode (length es) (filled es room) ≡ es
+pub report-back : {from to limit : ℕ} {es : List Entry} (room : List ℕ) → Ordered from to es → to ≤ 65536 → Inside es limit → limit < 65536 → fits es room ≡ true → decode (length es) (filled es room) ≡ es
 report-back {es = es} room o t i l f = rw (filled-written es room f) (read-back _ o t i l)

@@ -87,23 +87,21 @@ no-bit k = rw (zero-div (2 ^ (7 - k % 8)))
 bit-other : (b allowed : ℕ) (bits : List ℕ) (k : ℕ) → otherBit (b ∷ bits) allowed (8 + k) ≡ bitAt bits k
 bit-other b allowed bits k = rw (bit-later allowed [] k, no-bit k, bit-later b bits k, ne-eqb (8 + k) 0 (λ e. omega arith))
 
-module _ (b : ℕ) (bits : List ℕ) where
-  eight-more : 8 * length (b ∷ bits) ≡ 8 + 8 * length bits
-  eight-more = omega arith
+-- a test of the bits of b and of those after it, which of these says what g says
+octet-next : (f g : ℕ → Bool) (b : ℕ) (bits : List ℕ) → ((k : ℕ) → f (8 + k) ≡ g k) → anyBelow f (8 * length (b ∷ bits)) ≡ (anyBelow g (8 * length bits) || anyBelow f 8)
+octet-next f g b bits h =
+    let e : 8 * length (b ∷ bits) ≡ 8 + 8 * length bits = omega arith in
+    ap (anyBelow f) e
+    ∙ (any-split f 8 (8 * length bits)
+    ∙ ap (λ (t : Bool). t || anyBelow f 8) (any-same (λ k. f (8 + k)) g h (8 * length bits)))
 
-  set-next : anySet (b ∷ bits) ≡ (anySet bits || anyBelow (bitAt (b ∷ [])) 8)
-  unfolding anySet anyBelow
-  set-next =
-      ap (anyBelow (bitAt (b ∷ bits))) eight-more
-      ∙ (any-split (bitAt (b ∷ bits)) 8 (8 * length bits)
-      ∙ ap (λ (t : Bool). t || anyBelow (bitAt (b ∷ [])) 8) (any-same (λ k. bitAt (b ∷ bits) (8 + k)) (bitAt bits) (bit-later b bits) (8 * length bits)))
+set-next : (b : ℕ) (bits : List ℕ) → anySet (b ∷ bits) ≡ (anySet bits || anyBelow (bitAt (b ∷ [])) 8)
+unfolding anySet anyBelow
+set-next b bits = octet-next (bitAt (b ∷ bits)) (bitAt bits) b bits (bit-later b bits)
 
-  other-next : (allowed : ℕ) → otherBits (b ∷ bits) allowed ≡ (anySet bits || anyBelow (otherBit (b ∷ []) allowed) 8)
-  unfolding otherBits anySet anyBelow
-  other-next allowed =
-      ap (anyBelow (otherBit (b ∷ bits) allowed)) eight-more
-      ∙ (any-split (otherBit (b ∷ bits) allowed) 8 (8 * length bits)
-      ∙ ap (λ (t : Bool). t || anyBelow (otherBit (b ∷ []) allowed) 8) (any-same (λ k. otherBit (b ∷ bits) allowed (8 + k)) (bitAt bits) (bit-other b allowed bits) (8 * length bits)))
+other-next : (b allowed : ℕ) (bits : List ℕ) → otherBits (b ∷ bits) allowed ≡ (anySet bits || anyBelow (otherBit (b ∷ []) allowed) 8)
+unfolding otherBits anySet anyBelow
+other-next b allowed bits = octet-next (otherBit (b ∷ bits) allowed) (bitAt bits) b bits (bit-other b allowed bits)
 
 -- ---- the octets of a stretch from its kth on, which is b
 
@@ -150,7 +148,7 @@ other-none s body n allowed h = rw (few-octets s body n h)
 
 module _ (s : List ℕ) (body n b allowed : ℕ) (first : Bool) (h : 2 ≤ n) (e : b ≡ octetAt s (body + 1)) (f : first ≡ anyBelow (otherBit (b ∷ []) allowed) 8) where
   other-split : otherBits (bitOctets (octetsFrom s body n)) allowed ≡ (anySet (octetsFrom s (body + 2) (n - 2)) || first)
-  other-split = rw (more-octets s body n h, ← e, f) (other-next b (octetsFrom s (body + 2) (n - 2)) allowed)
+  other-split = rw (more-octets s body n h, ← e, f) (other-next b allowed (octetsFrom s (body + 2) (n - 2)))
 
   pub other-first : first ≡ true → true ≡ otherBits (bitOctets (octetsFrom s body n)) allowed
   other-first t = sym (other-split ∙ rw t (or-true (anySet (octetsFrom s (body + 2) (n - 2)))))

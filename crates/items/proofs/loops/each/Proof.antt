@@ -1,78 +1,22 @@
--- `items::each` meets its contract. The invariant: what is still to be put is what the rule gives over the elements from `at` on.
--- Assumes nothing.
+-- `items::each` meets its contract: each item is at place 0 or behind it. Assumes nothing.
 use borrow.Author.Needs.{needs}
-use native.Mathlib.Omega.{arith}
-use mathlib.Core.Path.{_≡_, refl, _∙_}
-use Prim.Native.Nat.{_-_}
-use lib.ListN.{length}
-use Rattle.der.specs.Header.{childrenOf}
-use Rattle.der.proofs.Laws.Header.{head-forward}
-use Rattle.report.specs.Forms.{each}
-use Rattle.report.proofs.Laws.Putting.{Rest, rest-start}
-use Rattle.report.proofs.Laws.Forms.{each-turn, each-end}
 use Rattle.items.specs.Kinds.{breaks}
+use Rattle.der.specs.Header.{childrenOf}
+use Rattle.report.proofs.Laws.First.{each-all}
 use Rattle.items.proofs.loops.each.Statement.{statement}
 use Rattle.items.proofs.loops.each.Tie as tie
 
-abbrev Inv-loop : tie.InvT-loop
-Inv-loop room₀ n rule kind p mark s from to count₀ at₀ room count at =
-    (length room ≡ length room₀)
-    × Rest (each rule (breaks kind p mark s) (childrenOf s at to)) count room (each rule (breaks kind p mark s) (childrenOf s from to)) n room₀
+each-behind-requires : tie.Need-each-behind-requires
+each-behind-requires c κs = search needs
 
-abbrev μ-loop : tie.MeasureT-loop
-μ-loop room₀ n rule kind p mark s from to count₀ at₀ room count at = to - at
+same-length : tie.Need-same-length
+same-length c = search needs
 
-loop-holds : tie.Need-loop-holds Inv-loop μ-loop
-loop-holds c = (refl, rest-start _ _ _)
-
-head-at-requires : tie.Need-head-at-requires Inv-loop μ-loop
-head-at-requires c κs = tt
-
-broken-requires : tie.Need-broken-requires Inv-loop μ-loop
-broken-requires c κs = tt
-
-note-requires : tie.Need-note-requires Inv-loop μ-loop
-note-requires c κs = tt
-
-loop-less : tie.Need-loop-less Inv-loop μ-loop
-loop-less c =
-    let k = c .before .before .before .before .before in
-    let l = k .before .before in
-    let a = l .before .before .before .args in
-    let f = head-forward (a .s .now) (l .loop .at) (a .to) (k .before .loop-test .taken) in
-    rw (k .head-at .ensures) (omega arith)
-
-loop-again : tie.Need-loop-again Inv-loop μ-loop
-loop-again c =
-    let note = c .before .before .note in
-    let b = c .before .before .before .before in
-    let k = b .before in
-    let l = k .before .before in
-    let a = l .before .before .before .args in (
-      note .kept .0 ∙ l .loop .inv .0,
-      each-turn (a .rule) (breaks (a .kind) (a .p) (a .mark) (a .s .now)) (a .s .now) (l .loop .at) (a .to) (k .head-at .result) (b .broken .result) (k .before .loop-test .taken) (k .head-at .ensures) (b .broken .ensures) (l .loop .inv .1) (note .ensures),
-    )
-
-same-length : tie.Need-same-length Inv-loop μ-loop
-same-length c = c .before .loop .inv .0
-
-returns : tie.Need-returns Inv-loop μ-loop
+returns : tie.Need-returns
 returns c =
-    let l = c .before in
-    let a = l .before .before .before .args in
-    each-end (a .rule) (breaks (a .kind) (a .p) (a .mark) (a .s .now)) (a .s .now) (l .loop .at) (a .to) (c .loop-test .left) (l .loop .inv .1)
+    let k = c .before .before in
+    let a = k .before .before .before .before .args in
+    rw (each-all (a .rule) (breaks (a .kind) (a .p) (a .mark) (a .s .now)) (childrenOf (a .s .now) (a .from) (a .to))) (k .each-behind .ensures)
 
 pub each-spec : {M : Type 1} → statement M
-each-spec =
-    tie.close
-    (tie.spec
-    Inv-loop
-    μ-loop
-    loop-holds
-    head-at-requires
-    broken-requires
-    note-requires
-    loop-less
-    loop-again
-    same-length
-    returns)
+each-spec = tie.close (tie.spec each-behind-requires same-length returns)

@@ -4,8 +4,8 @@ use Prim.Native.Nat.{_+_, _-_}
 use native.Mathlib.Nat.{add-zero, sub-zero}
 use native.Mathlib.Omega.{arith}
 use borrow.Author.Needs.{needs}
-use Rattle.octets.specs.Octets.{octetsFrom}
 use Rattle.names.specs.Hosts.{hasOctet}
+use Rattle.octets.specs.Octets.{octetsFrom}
 use Rattle.names.proofs.Laws.Hosts.{has-done, has-found, has-next}
 use Rattle.names.proofs.hosts.has_octet.Statement.{statement}
 use Rattle.names.proofs.hosts.has_octet.Tie as tie

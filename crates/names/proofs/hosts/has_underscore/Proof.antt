@@ -2,10 +2,10 @@
 use mathlib.Core.Path.{sym, ap, _∙_}
 use Prim.Native.Nat.{ℕ}
 use borrow.Author.Needs.{needs}
-use Rattle.octets.specs.Octets.{octetsFrom}
-use Rattle.der.specs.Contents.{contentsOf}
 use Rattle.names.specs.Names.{isDnsName}
 use Rattle.names.specs.Hosts.{hasOctet}
+use Rattle.octets.specs.Octets.{octetsFrom}
+use Rattle.der.specs.Contents.{contentsOf}
 use Rattle.names.proofs.Laws.Tests.{behind, without}
 use Rattle.names.proofs.hosts.has_underscore.Statement.{statement}
 use Rattle.names.proofs.hosts.has_underscore.Tie as tie

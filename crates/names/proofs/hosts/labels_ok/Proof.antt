@@ -9,9 +9,9 @@ use lib.ListN.{length}
 use lib.Dec.{leb, eqb}
 use borrow.Author.Needs.{needs}
 use borrow.Author.Tests.{not-true, not-false}
-use Rattle.octets.specs.Octets.{octetsFrom}
 use Rattle.names.specs.Hosts.{labelsOf, labelsOk}
 use Rattle.names.specs.Scanning.{scanned}
+use Rattle.octets.specs.Octets.{octetsFrom}
 use Rattle.names.proofs.Laws.Hosts.{scan-labels, scan-done, scan-bad, scan-next, size-grows}
 use Rattle.names.proofs.hosts.labels_ok.Statement.{statement}
 use Rattle.names.proofs.hosts.labels_ok.Tie as tie

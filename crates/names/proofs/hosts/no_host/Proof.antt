@@ -3,11 +3,11 @@ use mathlib.Core.Path.{sym, ap, _∙_}
 use mathlib.Core.Bool.{not}
 use Prim.Native.Nat.{ℕ}
 use borrow.Author.Needs.{needs}
-use Rattle.octets.specs.Octets.{octetsFrom}
-use Rattle.der.specs.Contents.{contentsOf}
 use Rattle.names.specs.Names.{isDnsName}
 use Rattle.names.specs.Hosts.{hostOf, isPlain}
 use Rattle.names.specs.declared.hosts.Host.{Host}
+use Rattle.octets.specs.Octets.{octetsFrom}
+use Rattle.der.specs.Contents.{contentsOf}
 use Rattle.names.proofs.Laws.Tests.{behind, without}
 use Rattle.names.proofs.hosts.no_host.Statement.{statement}
 use Rattle.names.proofs.hosts.no_host.Tie as tie

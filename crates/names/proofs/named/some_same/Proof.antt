@@ -7,12 +7,12 @@ use native.Mathlib.Nat.{add-zero, sub-zero}
 use native.Mathlib.Omega.{arith}
 use borrow.Author.Needs.{needs}
 use borrow.Author.Tests.{not-true, not-false}
+use Rattle.names.specs.Names.{isNamed, someNamed}
 use Rattle.octets.specs.Octets.{octetsFrom}
 use Rattle.octets.specs.Same.{sameBy, lowerCase}
 use Rattle.octets.proofs.Laws.Same.{same-done, same-next, same-apart}
 use Rattle.der.specs.Header.{childrenOf}
 use Rattle.der.proofs.Laws.Header.{head-forward}
-use Rattle.names.specs.Names.{isNamed, someNamed}
 use Rattle.names.proofs.Laws.Any.{any-done}
 use Rattle.names.proofs.Laws.Names.{named-skip, named-enter}
 use Rattle.names.proofs.named.some_same.Statement.{statement}

@@ -1,0 +1,18 @@
+-- `certificate::read_issuer` meets its contract. Assumes nothing.
+use borrow.Author.Needs.{needs}
+use Rattle.certificate.specs.Issuer.{issuerOf}
+use Rattle.certificate.proofs.issuer.read_issuer.Statement.{statement}
+use Rattle.certificate.proofs.issuer.read_issuer.Tie as tie
+
+read-requires : tie.Need-read-requires
+read-requires c κs = search needs
+
+key-id-in-requires : tie.Need-key-id-in-requires
+key-id-in-requires c κs = search needs
+
+returns : tie.Need-returns
+unfolding issuerOf
+returns c = cc
+
+pub read-issuer-spec : {M : Type 1} → statement M
+read-issuer-spec = tie.close (tie.spec read-requires key-id-in-requires returns)

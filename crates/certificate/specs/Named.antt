@@ -1,0 +1,40 @@
+-- That the fields are read where RFC 5280's grammar has them: `certificateOf` beside the members that asn's `Fields` names.
+use mathlib.Core.Path.{_≡_}
+use mathlib.Core.List.{List, [], _∷_}
+use lib.ListN.{length}
+use Prim.Native.Nat.{ℕ}
+use Rattle.asn.specs.Fields.{Outermost, TbsFields}
+use Rattle.der.specs.Header.{childrenOf}
+use Rattle.der.specs.Contents.{contentsOf}
+use Rattle.der.specs.declared.header.Head.{Head}
+use Rattle.times.specs.Reads.{timeOf}
+use Rattle.times.specs.declared.reading.Reading.the-variants.{Is}
+use Rattle.certificate.specs.Members.{missing}
+use Rattle.certificate.specs.Fields.{certificateOf}
+
+-- the [0] comes first, if the version is written; else the serial number does
+pub data VersionNamed (version serial : Head) : List Head → Type 0 where
+  unwritten : version ≡ serial → VersionNamed version serial []
+  written : {h : Head} → version ≡ h → VersionNamed version serial (h ∷ [])
+
+-- the extension list is the one member of the [3]; a certificate without a [3] has none
+pub data ExtensionsNamed (s : List ℕ) (list : Head) (end : ℕ) : List Head → Type 0 where
+  without : list ≡ missing end → ExtensionsNamed s list end []
+  listed : {h : Head} → childrenOf s (h .body) (h .end) ≡ list ∷ [] → ExtensionsNamed s list end (h ∷ [])
+
+pub record Named (s : List ℕ) : Type 0 where
+  pub outermost : Outermost s (childrenOf s 0 (length s))
+  pub fields : TbsFields s (childrenOf s (outermost .members .tbs .body) (outermost .members .tbs .end))
+  pub tbs : certificateOf s .tbs ≡ outermost .members .tbs
+  pub outer : certificateOf s .outer ≡ outermost .members .algorithm
+  pub version : VersionNamed (certificateOf s .version) (certificateOf s .serial) (fields .versions)
+  pub serial : certificateOf s .serial ≡ fields .serial
+  pub inner : certificateOf s .inner ≡ fields .algorithm
+  pub issuer : certificateOf s .issuer ≡ fields .issuer
+  pub period : certificateOf s .period ≡ fields .period
+  pub subject : certificateOf s .subject ≡ fields .subject
+  pub key : certificateOf s .key ≡ fields .key
+  pub extensions : ExtensionsNamed s (certificateOf s .extensions) (certificateOf s .tbs .end) (fields .extended)
+  pub times : childrenOf s (fields .period .body) (fields .period .end) ≡ certificateOf s .«not_before» ∷ certificateOf s .«not_after» ∷ []
+  pub before : timeOf (certificateOf s .«not_before» .tag) (contentsOf s (certificateOf s .«not_before»)) ≡ Is (certificateOf s .validity .«not_before»)
+  pub later : timeOf (certificateOf s .«not_after» .tag) (contentsOf s (certificateOf s .«not_after»)) ≡ Is (certificateOf s .validity .«not_after»)

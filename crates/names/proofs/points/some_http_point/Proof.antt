@@ -1,0 +1,69 @@
+-- `names::some_http_point` meets its contract. The invariant: the answer is that of the elements from i on. Assumes nothing.
+use mathlib.Core.Path.{_≡_, refl, sym, _∙_}
+use Prim.Native.Nat.{_-_}
+use native.Mathlib.Omega.{arith}
+use borrow.Author.Needs.{needs}
+use Rattle.names.specs.Names.{anyOf}
+use Rattle.names.specs.Points.{httpFullName}
+use Rattle.der.specs.Header.{childrenOf}
+use Rattle.der.proofs.Laws.Header.{head-forward}
+use Rattle.names.proofs.Laws.Any.{any-done, any-found, any-missed}
+use Rattle.names.proofs.points.some_http_point.Statement.{statement}
+use Rattle.names.proofs.points.some_http_point.Tie as tie
+
+abbrev Inv-loop : tie.InvT-loop
+Inv-loop s at end i₀ i = anyOf (httpFullName s) (childrenOf s at end) ≡ anyOf (httpFullName s) (childrenOf s i end)
+
+abbrev μ-loop : tie.MeasureT-loop
+μ-loop s at end i₀ i = end - i
+
+loop-holds : tie.Need-loop-holds Inv-loop μ-loop
+loop-holds c = refl
+
+head-at-requires : tie.Need-head-at-requires Inv-loop μ-loop
+head-at-requires c κs = search needs
+
+http-full-name-requires : tie.Need-http-full-name-requires Inv-loop μ-loop
+http-full-name-requires c κs = search needs
+
+returns : tie.Need-returns Inv-loop μ-loop
+returns c =
+    let k = c .before .before in
+    let p = k .before .before in
+    let a = p .before .before .args in
+    sym (p .loop .inv ∙ any-found (httpFullName (a .s .now)) (a .s .now) (p .loop .i) (a .end) (k .head-at .result) (k .before .loop-test .taken) (k .head-at .ensures) (sym (c .before .http-full-name .ensures) ∙ c .if1 .taken))
+
+loop-less : tie.Need-loop-less Inv-loop μ-loop
+loop-less c =
+    let k = c .before .before in
+    let p = k .before .before in
+    let a = p .before .before .args in
+    let f = head-forward (a .s .now) (p .loop .i) (a .end) (k .before .loop-test .taken) in
+    rw (k .head-at .ensures) (omega arith)
+
+loop-again : tie.Need-loop-again Inv-loop μ-loop
+loop-again c =
+    let k = c .before .before in
+    let p = k .before .before in
+    let a = p .before .before .args in
+    p .loop .inv ∙ any-missed (httpFullName (a .s .now)) (a .s .now) (p .loop .i) (a .end) (k .head-at .result) (k .before .loop-test .taken) (k .head-at .ensures) (sym (c .before .http-full-name .ensures) ∙ c .if1 .left)
+
+returns-2 : tie.Need-returns-2 Inv-loop μ-loop
+returns-2 c =
+    let p = c .before in
+    let a = p .before .before .args in
+    sym (p .loop .inv ∙ any-done (httpFullName (a .s .now)) (a .s .now) (p .loop .i) (a .end) (c .loop-test .left))
+
+pub some-http-point-spec : {M : Type 1} → statement M
+some-http-point-spec =
+    tie.close
+    (tie.spec
+    Inv-loop
+    μ-loop
+    loop-holds
+    head-at-requires
+    http-full-name-requires
+    returns
+    loop-less
+    loop-again
+    returns-2)

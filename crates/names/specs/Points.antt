@@ -1,0 +1,36 @@
+-- CRL distribution points (RFC 5280, 4.2.1.13):
+--     DistributionPoint ::= SEQUENCE { distributionPoint [0] DistributionPointName OPTIONAL, reasons [1] ReasonFlags OPTIONAL,
+--                                      cRLIssuer [2] GeneralNames OPTIONAL }
+--     DistributionPointName ::= CHOICE { fullName [0] GeneralNames, nameRelativeToCRLIssuer [1] RelativeDistinguishedName }
+-- All tags are implicit but that of distributionPoint, since a CHOICE has no tag to replace: it holds the fullName as an element.
+use mathlib.Core.List.{List, []}
+use mathlib.Core.Bool.{Bool, cond, _&&_, _||_}
+use Prim.Native.Nat.{ℕ}
+use lib.Dec.{eqb}
+use Rattle.names.specs.Names.{anyOf}
+use Rattle.names.specs.Uris.{isHttp}
+use Rattle.der.specs.Header.{headOf, childrenOf}
+use Rattle.der.specs.declared.header.Head.{Head}
+
+-- reasons, tag 81 hex, or cRLIssuer, tag A2 hex
+abbrev pub isRestriction : Head → Bool
+isRestriction h = eqb (h .tag) 129 || eqb (h .tag) 162
+
+-- 419 "each point with reasons or cRLIssuer"
+abbrev pub isRestricted : List ℕ → Head → Bool
+isRestricted s h = anyOf isRestriction (childrenOf s (h .body) (h .end))
+
+-- what stands first in an element
+abbrev pub firstIn : List ℕ → Head → Head
+firstIn s h = headOf s (h .body) (h .end)
+
+-- the names of a point's full name: distributionPoint, tag A0 hex, stands first, and in it fullName, tag A0 hex again
+abbrev pub fullNames : List ℕ → Head → List Head
+fullNames s h =
+    cond (eqb (firstIn s h .tag) 160 && eqb (firstIn s (firstIn s h) .tag) 160)
+    (childrenOf s (firstIn s (firstIn s h) .body) (firstIn s (firstIn s h) .end))
+    []
+
+-- 418 "an HTTP URI in some full name": this point's
+abbrev pub httpFullName : List ℕ → Head → Bool
+httpFullName s h = anyOf (isHttp s) (fullNames s h)

@@ -1,0 +1,3 @@
+-- Rules 301 to 363, one definition a rule.
+pub mod Slots
+pub mod Rules
