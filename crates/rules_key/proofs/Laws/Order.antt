@@ -62,7 +62,7 @@ module _ (s : List ℕ) (h : Head) where
   exponent-lies : Lies (exponentOf s h) (wholeOf s h .end)
   exponent-lies = lies s (modulusOf s h .end) (wholeOf s h .end) (modulus-lies .ends)
 
-pub key-inside : (p : Profile) (s : List ℕ) (k : Key) (limit : ℕ) → k .algorithm .at ≤ k .algorithm .end → k .algorithm .end ≤ limit → k .bits .at ≤ k .bits .end → k .bits .end ≤ limit → Inside limit (keyFindings p s k)
+pub key-inside : (p : Profile) (s : List ℕ) (k : Key) (limit : ℕ) → k .algorithm .at ≤ k .algorithm .end → k .algorithm .end ≤ limit → k .bits .at ≤ k .bits .end → k .bits .end ≤ limit → Inside (keyFindings p s k) limit
 unfolding keyFindings algorithmFindings rsaFindings
 key-inside p s k limit a b c d =
     let e = le-trans (whole-lies s (k .bits) .ends) d in
