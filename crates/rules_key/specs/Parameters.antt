@@ -10,8 +10,8 @@ use Rattle.der.specs.declared.header.Head.{Head}
 abbrev pub isNull : List ℕ → Head → Bool
 isNull s h = sameBy exactly (octetsOf s h) (0x05 ∷ 0x00 ∷ [])
 
--- The curves that document 000 lists (table of the long profile, row "Subject Public Key Information"), as OBJECT IDENTIFIERs (tag 6):
--- "Curve P-256 {1.2.840.10045.3.1.7}"
+-- The curves that document 000 lists ("Server Authentication Certificate Profile", the full table, row "Subject Public Key Information"), as
+-- OBJECT IDENTIFIERs (tag 6): "Curve P-256 {1.2.840.10045.3.1.7}"
 abbrev pub p256 : List ℕ
 p256 = 0x06 ∷ 0x08 ∷ 0x2A ∷ 0x86 ∷ 0x48 ∷ 0xCE ∷ 0x3D ∷ 0x03 ∷ 0x01 ∷ 0x07 ∷ []
 

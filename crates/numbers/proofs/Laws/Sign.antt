@@ -1,9 +1,10 @@
 -- The sign of an INTEGER.
---     positive-is     by its first octet, and the place of the first that is not 0
+--     positive-is         by its first octet, and the place of the first that is not 0
+--     positive-number     a positive INTEGER is the number that its octets say
 -- Assumes nothing.
 use mathlib.Core.Path.{_≡_, refl, sym, ap, _∙_}
 use mathlib.Core.List.{List}
-use mathlib.Core.Bool.{Bool, true, false, cond, _&&_}
+use mathlib.Core.Bool.{false≢true, Bool, true, false, cond, _&&_}
 use Prim.Native.Nat.{ℕ, zero, suc, _+_, _-_, _*_, _^_, _<_}
 use native.Mathlib.Nat.{mul-le-mul-right}
 use native.Mathlib.Omega.{arith}
@@ -60,3 +61,18 @@ module _ (s : List ℕ) (body end p : ℕ) (h : Bytes s) (e : p ≡ leadOf s bod
           let f = octets-first s body end (ltb-true body end t) in
           rw f (sign (ltb (octetAt s body) 128) (ltb p end) _ _ (rw f at above-zero) (rw f at less))
       go false t = let f = octets-none s body end (ltb-false body end t) in rw (above-zero, f)
+
+pub positive-number : (s : List ℕ) (body end : ℕ) → Bytes s → isPositive (integerOf (octetsFrom s body (end - body))) ≡ true → integerOf (octetsFrom s body (end - body)) ≡ pos (number s body end)
+unfolding integerOf numberFrom
+positive-number s body end h t = go (ltb body end) refl
+  where
+    whole : (low : Bool) (v m : ℕ) → v < m → isPositive (cond low (pos v) (subℕ v m)) ≡ true → cond low (pos v) (subℕ v m) ≡ pos v
+    whole true v m l e = refl
+    whole false v m l e = absurd (false≢true (rw (lt-ltb v m l) at e))
+
+    go : (b : Bool) → ltb body end ≡ b → integerOf (octetsFrom s body (end - body)) ≡ pos (number s body end)
+    go true b =
+        let f = octets-first s body end (ltb-true body end b) in
+        let l : number s body end < 256 ^ length (octetsFrom s body (end - body)) = less s body end (leadOf s body end) h refl in
+        rw f (whole (ltb (octetAt s body) 128) _ _ (rw f at l) (rw f at t))
+    go false b = let f = octets-none s body end (ltb-false body end b) in rw f

@@ -1,17 +1,19 @@
 -- An RSA key by the elements that are read of it.
 --     two-are         a list of two positive INTEGERs
 --     rsa-is          the whole key
+--     rsa-members     what the SEQUENCE of a good key holds
 -- Assumes nothing.
-use mathlib.Core.Path.{_≡_, refl}
-use mathlib.Core.List.{List, _∷_}
+use mathlib.Core.Path.{_≡_, refl, ap, _∙_}
+use mathlib.Core.List.{List, [], _∷_}
 use mathlib.Core.Bool.{Bool, true, false, _&&_}
 use Prim.Native.Nat.{ℕ, _≤_, _<_}
 use native.Mathlib.Omega.{arith}
 use lib.Dec.{ltb, eqb}
 use borrow.Author.Tests.{ltb-true, ltb-false, eqb-true, eqb-false}
-use Rattle.rules_key.specs.Bits.{bitsFrom, isPositiveInteger, twoPositive, rsaBits, rsaKeyOf}
+use Rattle.rules_key.specs.Bits.{bitsFrom, wholeOf, modulusOf, exponentOf, isPositiveInteger, twoPositive, rsaBits, rsaKeyOf}
 use Rattle.rules_key.specs.declared.bits.RsaKey.{RsaKey}
 use Rattle.octets.specs.Octets.{octetAt}
+use Rattle.octets.proofs.Laws.Tests.{and-l, and-r}
 use Rattle.der.specs.Header.{headOf, childrenOf}
 use Rattle.der.specs.Soundness.{stretchSoundness, isSound}
 use Rattle.der.specs.declared.header.Head.{Head}
@@ -43,3 +45,21 @@ pub rsa-is : (s : List ℕ) (h : Head) (from unused : ℕ) (found : Soundness) (
 unfolding rsaKeyOf rsaBits
 rsa-is s h from unused found sound whole m e a b fr un fo so wh mo ex pa pb =
     rw (two-are s (whole .body) (whole .end) m e a b mo ex pa pb, so, fo, un, ex, mo, wh, fr)
+
+-- where rule 204 is kept, the SEQUENCE holds the modulus and the exponent, and no more
+pub rsa-members : (s : List ℕ) (h : Head) → rsaBits s h ≡ true → childrenOf s (wholeOf s h .body) (wholeOf s h .end) ≡ modulusOf s h ∷ exponentOf s h ∷ []
+unfolding rsaBits
+rsa-members s h t =
+    let body = wholeOf s h .body in
+    let end = wholeOf s h .end in
+    let a = and-r (eqb (octetAt s (h .body)) 0) (isSound (stretchSoundness s (bitsFrom h) (h .end)) && (eqb (wholeOf s h .tag) 48 && twoPositive s (childrenOf s body end))) t in
+    let b = and-r (isSound (stretchSoundness s (bitsFrom h) (h .end))) (eqb (wholeOf s h .tag) 48 && twoPositive s (childrenOf s body end)) a in
+    let c = and-r (eqb (wholeOf s h .tag) 48) (twoPositive s (childrenOf s body end)) b in
+    let two = two-are s body end (modulusOf s h) (exponentOf s h) (isPositiveInteger s (modulusOf s h)) (isPositiveInteger s (exponentOf s h)) refl refl refl refl ∙ c in
+    let fill = and-l (ltb body end && (ltb (modulusOf s h .end) end && eqb (exponentOf s h .end) end)) (isPositiveInteger s (modulusOf s h) && isPositiveInteger s (exponentOf s h)) two in
+    let first = ltb-true body end (and-l (ltb body end) (ltb (modulusOf s h .end) end && eqb (exponentOf s h .end) end) fill) in
+    let rest = and-r (ltb body end) (ltb (modulusOf s h .end) end && eqb (exponentOf s h .end) end) fill in
+    let second = ltb-true (modulusOf s h .end) end (and-l (ltb (modulusOf s h .end) end) (eqb (exponentOf s h .end) end) rest) in
+    let last = eqb-true (exponentOf s h .end) end (and-r (ltb (modulusOf s h .end) end) (eqb (exponentOf s h .end) end) rest) in
+    children-next s body end first
+    ∙ ap (λ (hs : List Head). modulusOf s h ∷ hs) (children-next s (modulusOf s h .end) end second ∙ ap (λ (hs : List Head). exponentOf s h ∷ hs) (children-done s (exponentOf s h .end) end (omega arith)))
