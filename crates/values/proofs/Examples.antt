@@ -1,12 +1,13 @@
 -- Worked examples of the definitions, by computation: what each value says is beside it. Assumes nothing.
 use mathlib.Core.Path.{_≡_, refl}
 use mathlib.Core.List.{List, [], _∷_, map}
-use mathlib.Core.Bool.{Bool, true, false}
+use mathlib.Core.Bool.{Bool, true, false, not, _&&_}
 use Prim.Native.Nat.{ℕ}
 use lib.ListN.{length}
+use lib.Dec.{eqb}
 use Rattle.values.specs.Items.{firstItem, contentsAre, anyOf}
 use Rattle.values.specs.Identifiers.{KeyIdentifier, otherAuthority, notEmpty, notTwenty}
-use Rattle.values.specs.Usage.{anyBelow, unsignedOf, otherBits, otherUsage}
+use Rattle.values.specs.Usage.{bitAt, anyBelow, unsignedOf, otherBits, otherUsage}
 use Rattle.values.specs.Purposes.{noWantedPurpose, otherPurpose}
 use Rattle.values.specs.Policies.{isBelow, policyBelow, noneBelow, lacksPolicy, qualifiersOf, otherQualifier}
 use Rattle.octets.specs.Octets.{octetsFrom}
@@ -85,6 +86,11 @@ usages =
     ∷ is (unsigned (3 ∷ 1 ∷ 0 ∷ [])) true
     ∷ is (none (3 ∷ 1 ∷ 0 ∷ [])) false
     ∷ is (none (3 ∷ 3 ∷ 7 ∷ 0x80 ∷ 0x80 ∷ [])) true
+    -- the weight 32 is keyEncipherment (2), and 8 is keyAgreement (4), and no bit besides
+    ∷ is (bitAt (32 ∷ []) 2) true
+    ∷ is (anyBelow (λ k. not (eqb k 2) && bitAt (32 ∷ []) k) 16) false
+    ∷ is (bitAt (8 ∷ []) 4) true
+    ∷ is (anyBelow (λ k. not (eqb k 4) && bitAt (8 ∷ []) k) 16) false
     ∷ []
 
 -- ---- 407 and 408: purposes

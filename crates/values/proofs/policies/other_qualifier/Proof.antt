@@ -1,6 +1,4 @@
 -- `values::other_qualifier` meets its contract. Assumes nothing.
-use mathlib.Core.Path.{ap}
-use mathlib.Core.Bool.{not}
 use borrow.Author.Needs.{needs}
 use Rattle.values.specs.Policies.{otherQualifier}
 use Rattle.values.proofs.policies.other_qualifier.Statement.{statement}
@@ -14,7 +12,7 @@ identifier-is-requires c κs = search needs
 
 returns : tie.Need-returns
 unfolding otherQualifier
-returns c = ap not (c .identifier-is .ensures)
+returns c = rw (c .identifier-is .ensures)
 
 pub other-qualifier-spec : {M : Type 1} → statement M
 other-qualifier-spec =
