@@ -1,5 +1,6 @@
 // Rules 301 to 363: which extensions there are, whether they are critical, and whether their values are of their
 // types (document 01, "Rules on extensions").
+mod identifiers;
 mod slots;
 
 use certificate::Certificate;
@@ -32,5 +33,6 @@ pub fn extension_rules(
         starts,
         values,
     );
-    slots::over_slots(room, criticality, Question::Value, p, s, c, starts, values)
+    let bad = slots::over_slots(room, criticality, Question::Value, p, s, c, starts, values);
+    identifiers::identifiers(room, bad, p, s, c.extensions)
 }

@@ -1,9 +1,9 @@
+-- `rules_extensions::extension_rules` meets its contract. Assumes nothing.
 use borrow.Author.Needs.{needs}
+use Rattle.report.proofs.Laws.Putting.{_⨾_}
+use Rattle.rules_extensions.specs.Rules.{extensionFindings}
 use Rattle.rules_extensions.proofs.extension_rules.Statement.{statement}
 use Rattle.rules_extensions.proofs.extension_rules.Tie as tie
-use Rattle.rules_extensions.proofs.extension_rules.Reads as reads
-use Rattle.rules_extensions.proofs.extension_rules.Lts as lts
-use Rattle.rules_extensions.proofs.slots.over_slots.Reads as over-slots-reads
 
 over-slots-requires : tie.Need-over-slots-requires
 over-slots-requires c κs = search needs
@@ -14,13 +14,28 @@ over-slots-requires-2 c κs = search needs
 over-slots-requires-3 : tie.Need-over-slots-requires-3
 over-slots-requires-3 c κs = search needs
 
+identifiers-requires : tie.Need-identifiers-requires
+identifiers-requires c κs = search needs
+
 same-length : tie.Need-same-length
 same-length c = search needs
 
 returns : tie.Need-returns
-returns c = ?
+unfolding extensionFindings
+returns c =
+    let fourth = c .before .before in
+    let third = fourth .before .before .before .before in
+    let second = third .before .before .before .before in
+    let first = second .before .before .before .before in
+    first .over-slots .ensures ⨾ (second .over-slots2 .ensures ⨾ (third .over-slots3 .ensures ⨾ fourth .identifiers .ensures))
 
 pub extension-rules-spec : {M : Type 1} → statement M
 extension-rules-spec =
     tie.close
-    (tie.spec over-slots-requires over-slots-requires-2 over-slots-requires-3 same-length returns)
+    (tie.spec
+    over-slots-requires
+    over-slots-requires-2
+    over-slots-requires-3
+    identifiers-requires
+    same-length
+    returns)
