@@ -3,3 +3,4 @@ pub mod Fields
 pub mod Extensions
 pub mod Slots
 pub mod Inside
+pub mod Named
