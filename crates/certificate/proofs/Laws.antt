@@ -1,4 +1,5 @@
 -- Laws of the definitions, by file.
+pub mod Members
 pub mod Fields
 pub mod Extensions
 pub mod Slots
