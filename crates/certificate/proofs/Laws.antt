@@ -5,3 +5,4 @@ pub mod Extensions
 pub mod Slots
 pub mod Inside
 pub mod Named
+pub mod Parts

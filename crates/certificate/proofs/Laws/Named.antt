@@ -15,7 +15,7 @@ use Rattle.certificate.specs.Fields.{wholeOf, tbsOf, outerOf, versionIn,
 use Rattle.certificate.specs.Named.{VersionNamed, ExtensionsNamed, Named}
 use Rattle.certificate.specs.Named.VersionNamed.{unwritten, written}
 use Rattle.certificate.specs.Named.ExtensionsNamed.{without, listed}
-use Rattle.der.specs.Header.{headOf, childrenOf}
+use Rattle.der.specs.Header.{headOf, childrenOf, brokenHead}
 use Rattle.der.specs.declared.header.Head.{Head}
 use Rattle.der.proofs.Laws.Header.{head-narrow}
 use Rattle.der.proofs.Laws.Children.{children-done, children-next}
@@ -74,10 +74,11 @@ module _ (s : List ℕ) (end : ℕ) where
       let f = children-first s (k .place) end x xs (k .members) in
       record { place = h .end; is = refl; members = rw (k .is) (f .rest) }
 
-  stands-none : (h : Head) → Stands s end h [] → h .tag ≡ 0
-  stands-none h k = go (ltb (k .place) end) refl
+  -- where none is left the head is broken
+  stands-broken : (h : Head) → Stands s end h [] → h ≡ brokenHead (h .at) end
+  stands-broken h k = go (ltb (k .place) end) refl
     where
-      go : (t : Bool) → ltb (k .place) end ≡ t → h .tag ≡ 0
+      go : (t : Bool) → ltb (k .place) end ≡ t → h ≡ brokenHead (h .at) end
       go true l =
           let e : headOf s (k .place) end ∷ childrenOf s (headOf s (k .place) end .end) end ≡ [] = sym (children-next s (k .place) end (ltb-true (k .place) end l)) ∙ k .members in
           let z : _≡_ {A = ℕ} 0 1 = cc e in
@@ -85,6 +86,12 @@ module _ (s : List ℕ) (end : ℕ) where
       go false l =
           let f = ltb-false (k .place) end l in
           rw (k .is, head-narrow s (k .place) end (omega (arith, f)))
+
+  stands-none : (h : Head) → Stands s end h [] → h .tag ≡ 0
+  stands-none h k = ap (λ (y : Head). y .tag) (stands-broken h k)
+
+  pub stands-unsound : (h : Head) → Stands s end h [] → h .sound ≡ false
+  stands-unsound h k = ap (λ (y : Head). y .sound) (stands-broken h k)
 
   stands-past : (tag : ℕ) (h x : Head) (xs : List Head) → x .tag ≡ tag → Stands s end h (x ∷ xs) → Stands s end (past tag s h end) xs
   unfolding past
@@ -158,7 +165,7 @@ extensions-named s end x (h ∷ []) (present e) k =
     let d = done-fits s (h .at) _ (a .more) in
     let alone : childrenOf s (h .body) (h .end) ≡ a .first ∷ [] = cc (a .is, d) in
     let first = children-first s (h .body) (h .end) (a .first) [] alone .is in
-    rw (eq-eqb (x .tag) 0xA3 tag, here) (listed {h = h} (cc (alone, first)))
+    rw (eq-eqb (x .tag) 0xA3 tag, here) (listed {h = h} (cc (alone, first)) (rw first (a .fit)))
 
 -- ---- all fields
 
