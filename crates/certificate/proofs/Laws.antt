@@ -6,3 +6,4 @@ pub mod Slots
 pub mod Inside
 pub mod Named
 pub mod Parts
+pub mod Values

@@ -5,11 +5,14 @@ use mathlib.Core.List.{List, [], _∷_, _++_}
 use lib.ListN.{length}
 use Prim.Native.Nat.{ℕ}
 use Rattle.asn.specs.Grammar.{fits}
-use Rattle.asn.specs.Module.{booleanTrue, bitString, octetString, oid, extensions}
+use Rattle.asn.specs.Module.{booleanTrue, bitString, octetString, oid, extensions, valueOf}
 use Rattle.asn.specs.Fields.{Optional, Outermost, TbsFields}
 use Rattle.asn.specs.declared.fitting.Verdict.the-variants.{Fits}
 use Rattle.der.specs.Header.{childrenOf}
 use Rattle.der.specs.Contents.{contentsOf}
+use Rattle.der.specs.Elements.{elementsOf}
+use Rattle.der.specs.Soundness.{soundness}
+use Rattle.der.specs.declared.walk.Soundness.the-variants.{Sound}
 use Rattle.der.specs.declared.header.Head.{Head}
 use Rattle.times.specs.Reads.{timeOf}
 use Rattle.times.specs.declared.reading.Reading.the-variants.{Is}
@@ -17,6 +20,7 @@ use Rattle.certificate.specs.Members.{missing, firstIn}
 use Rattle.certificate.specs.Fields.{certificateOf}
 use Rattle.certificate.specs.Key.{keyOf}
 use Rattle.certificate.specs.Extensions.{extensionOf}
+use Rattle.certificate.specs.declared.slots.Value.{Value}
 
 -- the [0] comes first, if the version is written; else the serial number does
 pub data VersionNamed (version serial : Head) : List Head → Type 0 where
@@ -79,3 +83,13 @@ pub record KeyNamed (s : List ℕ) (key : Head) : Type 0 where
   pub identifier-fits : fits oid s (firstIn s (keyOf s key .algorithm)) ≡ Fits
   pub bits-fits : fits bitString s (keyOf s key .bits) ≡ Fits
   pub parameters : ParametersNamed (keyOf s key .parameters) extra
+
+-- ---- a good value
+
+-- The OCTET STRING is that of the extension, and it holds one element, which fills it, is sound with all that it holds, and is of its slot's type.
+pub record ValueNamed (s : List ℕ) (slot : ℕ) (holder : Head) (v : Value) : Type 0 where
+  pub is : v .holder ≡ holder
+  pub sound : v .holder .sound ≡ true
+  pub alone : childrenOf s (v .holder .body) (v .holder .end) ≡ v .element ∷ []
+  pub elements : soundness s (elementsOf s 16 (v .element)) ≡ Sound
+  pub element-fits : fits (valueOf slot) s (v .element) ≡ Fits
