@@ -58,6 +58,7 @@ pub data CriticalNamed : Bool → List Head → Type 0 where
 
 pub record ExtensionNamed (s : List ℕ) (h : Head) : Type 0 where
   pub boolean : List Head
+  pub tag : h .tag ≡ 0x30
   pub is : childrenOf s (h .body) (h .end) ≡ firstIn s h ∷ (boolean ++ (extensionOf s h .value ∷ []))
   pub identifier-fits : fits oid s (firstIn s h) ≡ Fits
   pub boolean-fits : Optional booleanTrue s boolean

@@ -14,6 +14,13 @@ use native.Mathlib.Omega.{arith}
 use lib.ListN.{length, getD, List·getD-eq-default}
 use lib.Dec.{ltb, eqb}
 use borrow.Author.Tests.{ltb-true, ltb-false}
+use Rattle.der.specs.Header.{headOf, brokenHead, childrenOf}
+use Rattle.der.specs.Walking.{Chain}
+use Rattle.der.specs.Walking.Chain.{done, next}
+use Rattle.der.specs.declared.header.Head.{Head}
+use Rattle.der.proofs.Laws.Header.{head-start, head-forward, head-body, head-narrow}
+use Rattle.der.proofs.Laws.Walking.{children-chain}
+use Rattle.asn.specs.Answers.{valueOk}
 use Rattle.certificate.specs.Inside.{Between, Inside, FieldsInside, KeyInside, ValueInside, IssuerInside, AllBetween, AllInside}
 use Rattle.certificate.specs.Inside.AllBetween.{none, more}
 use Rattle.certificate.specs.Fields.{wholeOf, tbsOf, outerOf, versionIn, serialIn, innerIn, issuerIn, periodIn, subjectIn, keyIn, listAfter, extensionsIn, notBeforeIn, notAfterIn, certificateOf}
@@ -22,13 +29,6 @@ use Rattle.certificate.specs.Extensions.{slotOf, extensionOf}
 use Rattle.certificate.specs.Slots.{orElse, startIn, startsOf, valueFrom, goodStart, valuesOf, holderAt, valueAt}
 use Rattle.certificate.specs.Issuer.{keyIdIn, issuerOf}
 use Rattle.certificate.specs.Members.{missing, firstIn, after, past, insideTag}
-use Rattle.der.specs.Header.{headOf, brokenHead, childrenOf}
-use Rattle.der.specs.Walking.{Chain}
-use Rattle.der.specs.Walking.Chain.{done, next}
-use Rattle.der.specs.declared.header.Head.{Head}
-use Rattle.der.proofs.Laws.Header.{head-start, head-forward, head-body, head-narrow}
-use Rattle.der.proofs.Laws.Walking.{children-chain}
-use Rattle.asn.specs.Answers.{valueOk}
 use Rattle.certificate.proofs.Laws.Slots.{start-at, value-start, value-past}
 
 pub between-wider : (a b c d : ℕ) (h : Head) → a ≤ b → c ≤ d → Between b c h → Between a d h

@@ -8,6 +8,9 @@ use mathlib.Core.List.{List}
 use Prim.Native.Nat.{ℕ, _-_}
 use lib.ListN.{getD}
 use lib.Dec.{eqb}
+use Rattle.octets.specs.Octets.{octetsFrom}
+use Rattle.der.specs.Contents.{contentsOf}
+use Rattle.der.specs.declared.header.Head.{Head}
 use Rattle.certificate.specs.Members.{firstIn, after, past, insideTag}
 use Rattle.certificate.specs.Fields.{listAfter, certificateOf}
 use Rattle.certificate.specs.Key.{kindOf, keyOf}
@@ -20,9 +23,6 @@ use Rattle.certificate.specs.declared.key.Key.{Key}
 use Rattle.certificate.specs.declared.extensions.Extension.{Extension}
 use Rattle.certificate.specs.declared.slots.Value.{Value}
 use Rattle.certificate.specs.declared.issuer.Issuer.{Issuer}
-use Rattle.octets.specs.Octets.{octetsFrom}
-use Rattle.der.specs.Contents.{contentsOf}
-use Rattle.der.specs.declared.header.Head.{Head}
 
 -- h is the element as it was read, of n content octets
 pub contents-read : (s : List ℕ) (x h : Head) (n : ℕ) → h ≡ x → n ≡ h .end - h .body → octetsFrom s (h .body) n ≡ contentsOf s x

@@ -9,15 +9,6 @@ use mathlib.Core.List.{List, [], _∷_, _++_, append-nil}
 use Prim.Native.Nat.{ℕ}
 use native.Mathlib.Omega.{arith}
 use lib.Dec.{eqb}
-use Rattle.certificate.specs.Members.{firstIn}
-use Rattle.certificate.specs.Fields.{certificateOf}
-use Rattle.certificate.specs.Key.{keyOf}
-use Rattle.certificate.specs.Extensions.{extensionOf}
-use Rattle.certificate.specs.Named.{ExtensionsNamed, CriticalNamed, ExtensionNamed, AllNamed, ParametersNamed, KeyNamed}
-use Rattle.certificate.specs.Named.CriticalNamed.{unmarked, marked}
-use Rattle.certificate.specs.Named.AllNamed.{none, more}
-use Rattle.certificate.specs.Named.ExtensionsNamed.{without, listed}
-use Rattle.certificate.specs.Named.ParametersNamed.{lacking, given}
 use Rattle.der.specs.Header.{childrenOf}
 use Rattle.der.specs.declared.header.Head.{Head}
 use Rattle.der.proofs.Laws.Children.{children-done}
@@ -30,6 +21,15 @@ use Rattle.asn.specs.Fields.Optional.{absent, present}
 use Rattle.asn.specs.declared.fitting.Verdict.{Verdict}
 use Rattle.asn.specs.declared.fitting.Verdict.the-variants.{Stranger, Fits, Wrong}
 use Rattle.asn.proofs.Laws.Fields.{parts-fit, one-fits, opt-fits, done-fits}
+use Rattle.certificate.specs.Members.{firstIn}
+use Rattle.certificate.specs.Fields.{certificateOf}
+use Rattle.certificate.specs.Key.{keyOf}
+use Rattle.certificate.specs.Extensions.{extensionOf}
+use Rattle.certificate.specs.Named.{ExtensionsNamed, CriticalNamed, ExtensionNamed, AllNamed, ParametersNamed, KeyNamed}
+use Rattle.certificate.specs.Named.CriticalNamed.{unmarked, marked}
+use Rattle.certificate.specs.Named.AllNamed.{none, more}
+use Rattle.certificate.specs.Named.ExtensionsNamed.{without, listed}
+use Rattle.certificate.specs.Named.ParametersNamed.{lacking, given}
 use Rattle.certificate.proofs.Laws.Named.{named, fit-tag, Stands, stands-here, stands-after, stands-optional, stands-unsound}
 
 -- ---- an Extension
@@ -63,6 +63,7 @@ extension-named s h e =
     let value-is = stands-here s (h .end) _ _ _ third in
     record {
       boolean = b .front;
+      tag = fit-tag 0x30 _ s h refl e;
       is = all ∙ (λ i. sym one-is i ∷ (b .front ++ (sym value-is i ∷ [])));
       identifier-fits = rw one-is (a .fit);
       boolean-fits = b .fit;

@@ -1,16 +1,17 @@
 -- The good value of a slot, and the first extension of one.
---     head-wider          a sound element is the same in a wider container
---     start-first         the first extension of a slot
---     value-named         a slot that has a good value: its OCTET STRING and the element in it
+--     head-same                  a sound element is the same in every container that has room for it
+--     start-first, start-other   the first extension of a slot
+--     earlier, seen-earlier      the extensions before one of a list
+--     value-named                a slot that has a good value: its OCTET STRING and the element in it
 -- Assumes nothing.
-use mathlib.Core.Path.{_≡_, refl, sym, ap, _∙_}
-use mathlib.Core.List.{List, [], _∷_}
+use mathlib.Core.Path.{_≡_, refl, sym, ap, _∙_, subst}
+use mathlib.Core.List.{List, [], _∷_, _++_}
 use mathlib.Core.Bool.{Bool, true, false, cond, _&&_, _||_}
 use Prim.Native.Nat.{ℕ, _+_, _≤_, _<_}
 use native.Mathlib.Omega.{arith}
 use lib.ListN.{length, getD}
 use lib.Dec.{ltb, leb, eqb}
-use borrow.Author.Tests.{ltb-true, ltb-false, le-leb, leb-true, eq-eqb, ne-eqb}
+use borrow.Author.Tests.{ltb-true, ltb-false, le-leb, eq-eqb, ne-eqb}
 use Rattle.octets.specs.Octets.{octetAt}
 use Rattle.octets.proofs.Laws.Tests.{and-l, and-r}
 use Rattle.der.specs.Header.{tagOk, lengthOf, lengthOk, headerSize, wholeHead, brokenHead, headOf, childrenOf}
@@ -18,8 +19,8 @@ use Rattle.der.specs.Soundness.{isSound, stretchSoundness}
 use Rattle.der.specs.declared.header.Head.{Head}
 use Rattle.der.specs.declared.walk.Soundness.{Soundness}
 use Rattle.der.specs.declared.walk.Soundness.the-variants.{Sound, Unsound, Unordered}
-use Rattle.der.proofs.Laws.Header.{head-start, head-narrow}
-use Rattle.der.proofs.Laws.Children.{children-done}
+use Rattle.der.proofs.Laws.Header.{head-start, head-narrow, head-forward, head-constructed}
+use Rattle.der.proofs.Laws.Children.{children-done, children-next}
 use Rattle.der.proofs.Laws.Walks.{sound-stretch}
 use Rattle.asn.specs.Grammar.{isFits}
 use Rattle.asn.specs.Module.{valueOf}
@@ -28,15 +29,15 @@ use Rattle.asn.specs.declared.fitting.Verdict.{Verdict}
 use Rattle.asn.specs.declared.fitting.Verdict.the-variants.{Stranger, Fits, Wrong}
 use Rattle.asn.proofs.Laws.Fields.{one-fits, done-fits}
 use Rattle.certificate.specs.Members.{firstIn, after, past}
-use Rattle.certificate.specs.Extensions.{secondIn, slotOf, extensionOf}
-use Rattle.certificate.specs.Slots.{orElse, startIn, valueFrom, goodStart, valuesOf, holderAt, valueAt}
-use Rattle.certificate.specs.Named.{ValueNamed}
-use Rattle.certificate.specs.declared.slots.Value.{Value}
+use Rattle.certificate.specs.Extensions.{secondIn, slotOf, extensionOf, sameIdentifier, anyOf, seenBefore}
+use Rattle.certificate.specs.Slots.{startIn, valueFrom, goodStart, valuesOf, holderAt, valueAt}
+use Rattle.certificate.specs.Named.{AllNamed, ValueNamed}
+use Rattle.certificate.specs.Named.AllNamed.{more}
 use Rattle.certificate.proofs.Laws.Inside.{between-head}
-use Rattle.certificate.proofs.Laws.Named.{Stands, stands-here}
+use Rattle.certificate.proofs.Laws.Named.{children-first, stands-here}
 use Rattle.certificate.proofs.Laws.Slots.{value-start}
 
--- ---- a sound element in a wider container
+-- ---- a sound element in another container
 
 -- the tests that a header passes, in a container that ends at end
 abbrev passed : List ℕ → ℕ → ℕ → Bool
@@ -50,21 +51,23 @@ sound-passed s at end = go (passed s at end)
     go true e = refl
     go false e = e
 
-passed-wider : (p l t q p′ q′ : Bool) → ((p && l) && (t && q)) ≡ true → p′ ≡ true → (q ≡ true → q′ ≡ true) → ((p′ && l) && (t && q′)) ≡ true
+passed-wider : (p l t q p′ q′ : Bool) → ((p && l) && (t && q)) ≡ true → p′ ≡ true → q′ ≡ true → ((p′ && l) && (t && q′)) ≡ true
 passed-wider p l t q p′ q′ e f g =
     let front = and-l (p && l) (t && q) e in
     let back = and-r (p && l) (t && q) e in
     let a = and-r p l front in
     let b = and-l t q back in
-    let c = g (and-r t q back) in
-    rw (f, a, b, c)
+    rw (f, a, b, g)
 
-pub head-wider : (s : List ℕ) (at end to : ℕ) → headOf s at end .sound ≡ true → end ≤ to → to ≤ length s → headOf s at to ≡ headOf s at end
+-- in any container that has room for it
+pub head-same : (s : List ℕ) (at end to : ℕ) → headOf s at end .sound ≡ true → headOf s at end .end ≤ to → to ≤ length s → headOf s at to ≡ headOf s at end
 unfolding headOf
-head-wider s at end to e l m =
+head-same s at end to e l m =
     let here = sound-passed s at end e in
-    let there = passed-wider (leb end (length s)) (lengthOk s at) (tagOk (octetAt s at)) (leb (at + (headerSize s at + lengthOf s at)) end) (leb to (length s)) (leb (at + (headerSize s at + lengthOf s at)) to) here (le-leb to (length s) m) (λ q. let b = leb-true (at + (headerSize s at + lengthOf s at)) end q in le-leb (at + (headerSize s at + lengthOf s at)) to (omega (arith, b, l))) in
-    ap (λ (b : Bool). cond b (wholeHead at (octetAt s at) (headerSize s at) (lengthOf s at)) (brokenHead at to)) there ∙ sym (ap (λ (b : Bool). cond b (wholeHead at (octetAt s at) (headerSize s at) (lengthOf s at)) (brokenHead at end)) here)
+    let whole : headOf s at end ≡ wholeHead at (octetAt s at) (headerSize s at) (lengthOf s at) = ap (λ (b : Bool). cond b (wholeHead at (octetAt s at) (headerSize s at) (lengthOf s at)) (brokenHead at end)) here in
+    let room : at + (headerSize s at + lengthOf s at) ≤ to = subst (λ (y : Head). y .end ≤ to) whole l in
+    let there = passed-wider (leb end (length s)) (lengthOk s at) (tagOk (octetAt s at)) (leb (at + (headerSize s at + lengthOf s at)) end) (leb to (length s)) (leb (at + (headerSize s at + lengthOf s at)) to) here (le-leb to (length s) m) (le-leb (at + (headerSize s at + lengthOf s at)) to room) in
+    ap (λ (b : Bool). cond b (wholeHead at (octetAt s at) (headerSize s at) (lengthOf s at)) (brokenHead at to)) there ∙ sym whole
 
 -- an element with contents is sound
 held-sound : (s : List ℕ) (at end : ℕ) → headOf s at end .body < headOf s at end .end → headOf s at end .sound ≡ true
@@ -95,6 +98,37 @@ pub start-other : (s : List ℕ) (h : Head) (hs : List Head) (slot : ℕ) → (s
 unfolding startIn
 start-other s h hs slot n = rw (ne-eqb (slotOf s h) slot n)
 
+-- ---- the extensions before one
+
+-- the members from place at on that start before h, in a list that ends at end, are xs
+pub record Earlier (s : List ℕ) (at end : ℕ) (h : Head) (xs : List Head) : Type 0 where
+  pub low : at ≤ h .at
+  pub high : h .at < end
+  pub is : childrenOf s at (h .at) ≡ xs
+
+pub earlier : (s : List ℕ) (end : ℕ) → end ≤ length s → (h : Head) (ys xs : List Head) (at : ℕ) → childrenOf s at end ≡ xs ++ (h ∷ ys) → AllNamed s (xs ++ (h ∷ ys)) → Earlier s at end h xs
+earlier s end l h ys [] at e n =
+    let f = children-first s at end h ys e in
+    let here : h .at ≡ at = ap (λ (y : Head). y .at) (sym (f .is)) ∙ head-start s at end in
+    record { low = omega (arith, here); high = omega (arith, here, f .some); is = children-done s at (h .at) (omega (arith, here)) }
+earlier s end l h ys (x ∷ xs) at e (more named rest) =
+    let f = children-first s at end x (xs ++ (h ∷ ys)) e in
+    let r = earlier s end l h ys xs (headOf s at end .end) (f .rest) rest in
+    let forward = head-forward s at end (f .some) in
+    let tag : headOf s at end .tag ≡ 0x30 = ap (λ (y : Head). y .tag) (f .is) ∙ named .tag in
+    let sound = head-constructed s at end (rw tag refl) in
+    let same : headOf s at (h .at) ≡ headOf s at end = head-same s at end (h .at) sound (r .low) (omega (arith, l, r .high)) in
+    record {
+      low = omega (arith, r .low, forward .0);
+      high = r .high;
+      is = children-next s at (h .at) (omega (arith, r .low, forward .0)) ∙ (λ i. (same ∙ f .is) i ∷ ((λ j. childrenOf s (same j .end) (h .at)) ∙ r .is) i);
+    }
+
+-- 361 looks at the extensions that stand before one
+pub seen-earlier : (s : List ℕ) (list h : Head) (xs ys : List Head) → list .end ≤ length s → childrenOf s (list .body) (list .end) ≡ xs ++ (h ∷ ys) → AllNamed s (xs ++ (h ∷ ys)) → seenBefore s (list .body) h ≡ anyOf (λ (e : Head). sameIdentifier s e h) xs
+unfolding seenBefore
+seen-earlier s list h xs ys l e n = ap (anyOf (λ (e : Head). sameIdentifier s e h)) (earlier s (list .end) l h ys xs (list .body) e n .is)
+
 -- ---- a good value
 
 -- an element as it is read in a container that ends at end
@@ -116,7 +150,7 @@ read-whole s end h l r b =
     let held : headOf s (r .place) end .body < headOf s (r .place) end .end = rw (← r .is) b in
     let sound = held-sound s (r .place) end held in
     let at : h .at ≡ r .place = ap (λ (y : Head). y .at) (r .is) ∙ head-start s (r .place) end in
-    (ap (λ (y : Head). y .sound) (r .is) ∙ sound, ap (λ (n : ℕ). headOf s n (length s)) at ∙ (head-wider s (r .place) end (length s) sound l (omega arith) ∙ sym (r .is)))
+    (ap (λ (y : Head). y .sound) (r .is) ∙ sound, ap (λ (n : ℕ). headOf s n (length s)) at ∙ (head-same s (r .place) end (length s) sound (omega (arith, l, head-ends s (r .place) end)) (omega arith) ∙ sym (r .is)))
 
 is-sound : (v : Soundness) → isSound v ≡ true → v ≡ Sound
 is-sound Sound e = refl

@@ -3,9 +3,9 @@ use mathlib.Core.Path.{ap, _∙_}
 use mathlib.Core.List.{List}
 use Prim.Native.Nat.{ℕ}
 use borrow.Author.Needs.{needs}
+use Rattle.octets.specs.Same.{sameBy, exactly}
 use Rattle.certificate.specs.Members.{firstIn}
 use Rattle.certificate.specs.Extensions.{certificateExtension}
-use Rattle.octets.specs.Same.{sameBy, exactly}
 use Rattle.certificate.proofs.Laws.Members.{contents-read}
 use Rattle.certificate.proofs.extensions.is_period.Statement.{statement}
 use Rattle.certificate.proofs.extensions.is_period.Tie as tie

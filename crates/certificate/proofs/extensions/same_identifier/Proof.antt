@@ -1,8 +1,8 @@
 -- `certificate::same_identifier` meets its contract. Assumes nothing.
 use mathlib.Core.Path.{_∙_}
 use borrow.Author.Needs.{needs}
-use Rattle.certificate.specs.Members.{firstIn}
 use Rattle.octets.specs.Same.{sameBy, exactly}
+use Rattle.certificate.specs.Members.{firstIn}
 use Rattle.certificate.proofs.Laws.Members.{contents-read}
 use Rattle.certificate.proofs.extensions.same_identifier.Statement.{statement}
 use Rattle.certificate.proofs.extensions.same_identifier.Tie as tie

@@ -1,8 +1,8 @@
 -- `certificate::fields::time_in` meets its contract. Assumes nothing.
 use mathlib.Core.Path.{refl, ap, _∙_}
 use borrow.Author.Needs.{needs}
-use Rattle.certificate.specs.Fields.{timeIs, timeIn}
 use Rattle.times.specs.Reads.{timeOf}
+use Rattle.certificate.specs.Fields.{timeIs, timeIn}
 use Rattle.certificate.proofs.Laws.Members.{contents-read}
 use Rattle.certificate.proofs.fields.time_in.Statement.{statement}
 use Rattle.certificate.proofs.fields.time_in.Tie as tie
