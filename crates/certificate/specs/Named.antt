@@ -1,16 +1,26 @@
 -- That the fields are read where RFC 5280's grammar has them: `certificateOf` beside the members that asn's `Fields` names.
 use mathlib.Core.Path.{_≡_}
-use mathlib.Core.List.{List, [], _∷_}
+use mathlib.Core.Bool.{Bool, true, false}
+use mathlib.Core.List.{List, [], _∷_, _++_}
 use lib.ListN.{length}
 use Prim.Native.Nat.{ℕ}
-use Rattle.asn.specs.Fields.{Outermost, TbsFields}
+use Rattle.asn.specs.Grammar.{fits}
+use Rattle.asn.specs.Module.{booleanTrue, bitString, octetString, oid, extensions, valueOf}
+use Rattle.asn.specs.Fields.{Optional, Outermost, TbsFields}
+use Rattle.asn.specs.declared.fitting.Verdict.the-variants.{Fits}
 use Rattle.der.specs.Header.{childrenOf}
 use Rattle.der.specs.Contents.{contentsOf}
+use Rattle.der.specs.Elements.{elementsOf}
+use Rattle.der.specs.Soundness.{soundness}
+use Rattle.der.specs.declared.walk.Soundness.the-variants.{Sound}
 use Rattle.der.specs.declared.header.Head.{Head}
 use Rattle.times.specs.Reads.{timeOf}
 use Rattle.times.specs.declared.reading.Reading.the-variants.{Is}
-use Rattle.certificate.specs.Members.{missing}
+use Rattle.certificate.specs.Members.{missing, firstIn}
 use Rattle.certificate.specs.Fields.{certificateOf}
+use Rattle.certificate.specs.Key.{keyOf}
+use Rattle.certificate.specs.Extensions.{extensionOf}
+use Rattle.certificate.specs.declared.slots.Value.{Value}
 
 -- the [0] comes first, if the version is written; else the serial number does
 pub data VersionNamed (version serial : Head) : List Head → Type 0 where
@@ -20,7 +30,7 @@ pub data VersionNamed (version serial : Head) : List Head → Type 0 where
 -- the extension list is the one member of the [3]; a certificate without a [3] has none
 pub data ExtensionsNamed (s : List ℕ) (list : Head) (end : ℕ) : List Head → Type 0 where
   without : list ≡ missing end → ExtensionsNamed s list end []
-  listed : {h : Head} → childrenOf s (h .body) (h .end) ≡ list ∷ [] → ExtensionsNamed s list end (h ∷ [])
+  listed : {h : Head} → childrenOf s (h .body) (h .end) ≡ list ∷ [] → fits extensions s list ≡ Fits → ExtensionsNamed s list end (h ∷ [])
 
 pub record Named (s : List ℕ) : Type 0 where
   pub outermost : Outermost s (childrenOf s 0 (length s))
@@ -38,3 +48,49 @@ pub record Named (s : List ℕ) : Type 0 where
   pub times : childrenOf s (fields .period .body) (fields .period .end) ≡ certificateOf s .«not_before» ∷ certificateOf s .«not_after» ∷ []
   pub before : timeOf (certificateOf s .«not_before» .tag) (contentsOf s (certificateOf s .«not_before»)) ≡ Is (certificateOf s .validity .«not_before»)
   pub later : timeOf (certificateOf s .«not_after» .tag) (contentsOf s (certificateOf s .«not_after»)) ≡ Is (certificateOf s .validity .«not_after»)
+
+-- ---- an Extension
+
+-- it is critical exactly if the BOOLEAN is written, which then is TRUE
+pub data CriticalNamed : Bool → List Head → Type 0 where
+  unmarked : CriticalNamed false []
+  marked : {h : Head} → CriticalNamed true (h ∷ [])
+
+pub record ExtensionNamed (s : List ℕ) (h : Head) : Type 0 where
+  pub boolean : List Head
+  pub tag : h .tag ≡ 0x30
+  pub is : childrenOf s (h .body) (h .end) ≡ firstIn s h ∷ (boolean ++ (extensionOf s h .value ∷ []))
+  pub identifier-fits : fits oid s (firstIn s h) ≡ Fits
+  pub boolean-fits : Optional booleanTrue s boolean
+  pub value-fits : fits octetString s (extensionOf s h .value) ≡ Fits
+  pub critical : CriticalNamed (extensionOf s h .critical) boolean
+
+-- every extension of a list
+pub data AllNamed (s : List ℕ) : List Head → Type 0 where
+  none : AllNamed s []
+  more : {h : Head} {hs : List Head} → ExtensionNamed s h → AllNamed s hs → AllNamed s (h ∷ hs)
+
+-- ---- a SubjectPublicKeyInfo
+
+-- parameters that are not there are a head that is not sound
+pub data ParametersNamed (parameters : Head) : List Head → Type 0 where
+  lacking : parameters .sound ≡ false → ParametersNamed parameters []
+  given : {h : Head} → parameters ≡ h → ParametersNamed parameters (h ∷ [])
+
+pub record KeyNamed (s : List ℕ) (key : Head) : Type 0 where
+  pub extra : List Head
+  pub is : childrenOf s (key .body) (key .end) ≡ keyOf s key .algorithm ∷ keyOf s key .bits ∷ []
+  pub inner : childrenOf s (keyOf s key .algorithm .body) (keyOf s key .algorithm .end) ≡ firstIn s (keyOf s key .algorithm) ∷ extra
+  pub identifier-fits : fits oid s (firstIn s (keyOf s key .algorithm)) ≡ Fits
+  pub bits-fits : fits bitString s (keyOf s key .bits) ≡ Fits
+  pub parameters : ParametersNamed (keyOf s key .parameters) extra
+
+-- ---- a good value
+
+-- The OCTET STRING is that of the extension, and it holds one element, which fills it, is sound with all that it holds, and is of its slot's type.
+pub record ValueNamed (s : List ℕ) (slot : ℕ) (holder : Head) (v : Value) : Type 0 where
+  pub is : v .holder ≡ holder
+  pub sound : v .holder .sound ≡ true
+  pub alone : childrenOf s (v .holder .body) (v .holder .end) ≡ v .element ∷ []
+  pub elements : soundness s (elementsOf s 16 (v .element)) ≡ Sound
+  pub element-fits : fits (valueOf slot) s (v .element) ≡ Fits

@@ -10,7 +10,6 @@ use Prim.Native.Nat.{ℕ, _+_, _≤_, _<_}
 use native.Mathlib.Omega.{arith}
 use lib.ListN.{length}
 use lib.Dec.{eqb}
-use Rattle.certificate.specs.Extensions.{certificateExtension, authorityInfoAccess, nocheck, slotBy, slotFor, anyOf}
 use Rattle.octets.specs.Octets.{octetAt, octetsFrom}
 use Rattle.octets.specs.Same.{sameBy, exactly}
 use Rattle.octets.proofs.Laws.Octets.{octets-long}
@@ -18,6 +17,7 @@ use Rattle.octets.proofs.Laws.Same.{same-length}
 use Rattle.der.specs.Header.{headOf, childrenOf}
 use Rattle.der.specs.declared.header.Head.{Head}
 use Rattle.der.proofs.Laws.Children.{children-done, children-next}
+use Rattle.certificate.specs.Extensions.{certificateExtension, authorityInfoAccess, nocheck, slotBy, slotFor, anyOf}
 
 -- ---- slots
 

@@ -5,12 +5,12 @@ use mathlib.Core.Path.{_≡_, _∙_}
 use mathlib.Core.List.{List}
 use Prim.Native.Nat.{ℕ}
 use lib.ListN.{length}
-use Rattle.certificate.specs.Members.{firstIn, after, past}
-use Rattle.certificate.specs.Fields.{wholeOf, tbsOf, outerOf, versionIn, serialIn, innerIn, issuerIn, periodIn, subjectIn, keyIn, listAfter, extensionsIn, notBeforeIn, notAfterIn, validityOf, certificateOf}
-use Rattle.certificate.specs.declared.fields.Certificate.{Certificate}
 use Rattle.der.specs.Header.{headOf}
 use Rattle.der.specs.declared.header.Head.{Head}
 use Rattle.times.specs.declared.validity.Validity.{Validity}
+use Rattle.certificate.specs.Members.{firstIn, after, past}
+use Rattle.certificate.specs.Fields.{wholeOf, tbsOf, outerOf, versionIn, serialIn, innerIn, issuerIn, periodIn, subjectIn, keyIn, listAfter, extensionsIn, notBeforeIn, notAfterIn, validityOf, certificateOf}
+use Rattle.certificate.specs.declared.fields.Certificate.{Certificate}
 
 -- ---- head after head
 

@@ -6,10 +6,10 @@
 --     first-inside, value-part-inside, key-inside             the first member, the value of an extension, the parts of a key
 --     value-inside, issuer-inside                             a good value and the issuer's two parts
 -- Assumes nothing.
-use mathlib.Core.Path.{_≡_, refl, sym, ap, _∙_}
-use mathlib.Core.List.{List, [], _∷_}
+use mathlib.Core.Path.{_≡_, refl}
+use mathlib.Core.List.{List}
 use mathlib.Core.Bool.{Bool, true, false, cond, _||_}
-use Prim.Native.Nat.{ℕ, _+_, _≤_, _<_}
+use Prim.Native.Nat.{ℕ, _≤_}
 use native.Mathlib.Omega.{arith}
 use lib.ListN.{length, getD, List·getD-eq-default}
 use lib.Dec.{ltb, eqb}
@@ -28,8 +28,8 @@ use Rattle.certificate.specs.Key.{keyOf}
 use Rattle.certificate.specs.Extensions.{slotOf, extensionOf}
 use Rattle.certificate.specs.Slots.{orElse, startIn, startsOf, valueFrom, goodStart, valuesOf, holderAt, valueAt}
 use Rattle.certificate.specs.Issuer.{keyIdIn, issuerOf}
-use Rattle.certificate.proofs.Laws.Slots.{start-at, value-start, value-past}
 use Rattle.certificate.specs.Members.{missing, firstIn, after, past, insideTag}
+use Rattle.certificate.proofs.Laws.Slots.{start-at, value-start, value-past}
 
 pub between-wider : (a b c d : ℕ) (h : Head) → a ≤ b → c ≤ d → Between b c h → Between a d h
 between-wider a b c d h l m k = record { starts = omega (arith, k .starts); holds = k .holds; forward = k .forward; ends = omega (arith, k .ends) }
@@ -239,14 +239,14 @@ holder-inside s at l = go (eqb at 0)
 
 -- of an extension list
 module _ (s : List ℕ) (list : Head) (k : Inside s list) where
-  slot-below : (slot : ℕ) → goodStart s (list .end) slot (startIn s (childrenOf s (list .body) (list .end)) slot) ≤ length s
-  slot-below slot = good-below s (list .end) slot _ (k .ends) (start-below s slot (members-between s list k))
+  value-below : (slot : ℕ) → goodStart s (list .end) slot (startIn s (childrenOf s (list .body) (list .end)) slot) ≤ length s
+  value-below slot = good-below s (list .end) slot _ (k .ends) (start-below s slot (members-between s list k))
 
   listed-below : (slot : ℕ) → getD (valuesOf s (startsOf s (childrenOf s (list .body) (list .end))) (list .end)) slot 0 ≤ length s
   listed-below slot = go (ltb slot 11) refl
     where
       go : (t : Bool) → ltb slot 11 ≡ t → getD (valuesOf s (startsOf s (childrenOf s (list .body) (list .end))) (list .end)) slot 0 ≤ length s
-      go true e = let h = ltb-true slot 11 e in rw (value-start s (startsOf s (childrenOf s (list .body) (list .end))) (list .end) slot h, start-at s (childrenOf s (list .body) (list .end)) slot h) (slot-below slot)
+      go true e = let h = ltb-true slot 11 e in rw (value-start s (startsOf s (childrenOf s (list .body) (list .end))) (list .end) slot h, start-at s (childrenOf s (list .body) (list .end)) slot h) (value-below slot)
       go false e = rw (List·getD-eq-default (valuesOf s (startsOf s (childrenOf s (list .body) (list .end))) (list .end)) 0 (value-past s (startsOf s (childrenOf s (list .body) (list .end))) (list .end) slot (ltb-false slot 11 e))) (omega arith)
 
   pub value-inside : (slot : ℕ) → ValueInside s (valueAt s (valuesOf s (startsOf s (childrenOf s (list .body) (list .end))) (list .end)) slot)
@@ -257,7 +257,7 @@ module _ (s : List ℕ) (list : Head) (k : Inside s list) where
 
   key-id-inside : Inside s (keyIdIn s list)
   unfolding keyIdIn
-  key-id-inside = first-inside s _ (holder-inside s _ (slot-below 3))
+  key-id-inside = first-inside s _ (holder-inside s _ (value-below 3))
 
 pub issuer-inside : (i : List ℕ) → IssuerInside i (issuerOf i)
 unfolding issuerOf

@@ -17,14 +17,14 @@ use lib.ListN.{length, getD, set, replicate, length-map, length-set, length-repl
 use lib.Seq.{getD-set-same, getD-set-other, ext-getD}
 use lib.Dec.{eqb}
 use borrow.Author.Tests.{eqb-true, eqb-false}
-use Rattle.certificate.specs.Extensions.{identifiers, positionFrom, slotFor, slotOf, extensionOf}
-use Rattle.certificate.specs.Slots.{numbersFrom, bySlot, orElse, startIn, startsOf, goodStart, valuesOf}
-use Rattle.certificate.specs.declared.extensions.Extension.{Extension}
 use Rattle.octets.specs.Same.{sameBy, exactly}
 use Rattle.der.specs.Header.{headOf, childrenOf}
 use Rattle.der.specs.declared.header.Head.{Head}
 use Rattle.der.proofs.Laws.Children.{children-done, children-next}
 use Rattle.asn.specs.Answers.{valueOk}
+use Rattle.certificate.specs.Extensions.{identifiers, positionFrom, slotFor, slotOf, extensionOf}
+use Rattle.certificate.specs.Slots.{numbersFrom, bySlot, orElse, startIn, startsOf, goodStart, valuesOf}
+use Rattle.certificate.specs.declared.extensions.Extension.{Extension}
 
 -- ---- a list by slots
 

@@ -1,5 +1,9 @@
 -- `certificate::same_identifier` meets its contract. Assumes nothing.
+use mathlib.Core.Path.{_∙_}
 use borrow.Author.Needs.{needs}
+use Rattle.octets.specs.Same.{sameBy, exactly}
+use Rattle.certificate.specs.Members.{firstIn}
+use Rattle.certificate.proofs.Laws.Members.{contents-read}
 use Rattle.certificate.proofs.extensions.same_identifier.Statement.{statement}
 use Rattle.certificate.proofs.extensions.same_identifier.Tie as tie
 
@@ -19,7 +23,15 @@ same-octets-requires : tie.Need-same-octets-requires
 same-octets-requires c κs = search needs
 
 returns : tie.Need-returns
-returns c = cc
+returns c =
+    let n = c .before in
+    let m = n .before in
+    let g = m .before in
+    let f = g .before in
+    let a = f .before .before .args in
+    let one = contents-read (a .s .now) (firstIn (a .s .now) (a .a)) _ _ (f .first-in .ensures) (m .minus .ensures) in
+    let two = contents-read (a .s .now) (firstIn (a .s .now) (a .b)) _ _ (g .first-in2 .ensures) (n .minus2 .ensures) in
+    c .same-octets .ensures ∙ (λ k. sameBy exactly (one k) (two k))
 
 pub same-identifier-spec : {M : Type 1} → statement M
 same-identifier-spec =

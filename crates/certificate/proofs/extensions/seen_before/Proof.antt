@@ -3,10 +3,10 @@ use mathlib.Core.Path.{_≡_, refl, sym, _∙_}
 use Prim.Native.Nat.{_-_}
 use native.Mathlib.Omega.{arith}
 use borrow.Author.Needs.{needs}
-use Rattle.certificate.specs.Extensions.{sameIdentifier, anyOf, seenBefore}
 use Rattle.der.specs.Header.{childrenOf}
 use Rattle.der.specs.declared.header.Head.{Head}
 use Rattle.der.proofs.Laws.Header.{head-forward}
+use Rattle.certificate.specs.Extensions.{sameIdentifier, anyOf, seenBefore}
 use Rattle.certificate.proofs.Laws.Extensions.{any-done, any-here, any-next}
 use Rattle.certificate.proofs.extensions.seen_before.Statement.{statement}
 use Rattle.certificate.proofs.extensions.seen_before.Tie as tie

@@ -3,9 +3,9 @@ use mathlib.Core.Path.{refl, sym, ap, _∙_}
 use mathlib.Core.Bool.{Bool, cond}
 use Prim.Native.Nat.{_+_}
 use borrow.Author.Needs.{needs}
-use Rattle.certificate.specs.Extensions.{nocheck, slotBy}
 use Rattle.octets.specs.Octets.{octetAt, octetsFrom}
 use Rattle.octets.specs.Same.{sameBy, exactly}
+use Rattle.certificate.specs.Extensions.{nocheck, slotBy}
 use Rattle.certificate.proofs.Laws.Extensions.{slot-three, slot-other}
 use Rattle.certificate.proofs.extensions.slot_for.Statement.{statement}
 use Rattle.certificate.proofs.extensions.slot_for.Tie as tie

@@ -12,7 +12,9 @@ time-in-requires-2 c κs = search needs
 
 returns : tie.Need-returns
 unfolding validityOf
-returns c = cc
+returns c =
+    let b = c .before in
+    λ k. record { «not_before» = b .time-in .ensures k; «not_after» = c .time-in2 .ensures k }
 
 pub validity-of-spec : {M : Type 1} → statement M
 validity-of-spec = tie.close (tie.spec time-in-requires time-in-requires-2 returns)

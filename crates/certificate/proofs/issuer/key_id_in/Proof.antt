@@ -5,10 +5,10 @@ use Prim.Native.Nat.{ℕ}
 use native.Mathlib.Omega.{arith}
 use lib.ListN.{getD}
 use borrow.Author.Needs.{needs}
+use Rattle.der.specs.Header.{childrenOf}
 use Rattle.certificate.specs.Members.{firstIn}
 use Rattle.certificate.specs.Slots.{startIn, goodStart, holderAt}
 use Rattle.certificate.specs.Issuer.{keyIdIn}
-use Rattle.der.specs.Header.{childrenOf}
 use Rattle.certificate.proofs.Laws.Slots.{start-at}
 use Rattle.certificate.proofs.issuer.key_id_in.Statement.{statement}
 use Rattle.certificate.proofs.issuer.key_id_in.Tie as tie

@@ -1,6 +1,6 @@
 -- `certificate::read_issuer` meets its contract. Assumes nothing.
 use borrow.Author.Needs.{needs}
-use Rattle.certificate.specs.Issuer.{issuerOf}
+use Rattle.certificate.proofs.Laws.Members.{issuer-law}
 use Rattle.certificate.proofs.issuer.read_issuer.Statement.{statement}
 use Rattle.certificate.proofs.issuer.read_issuer.Tie as tie
 
@@ -11,8 +11,9 @@ key-id-in-requires : tie.Need-key-id-in-requires
 key-id-in-requires c κs = search needs
 
 returns : tie.Need-returns
-unfolding issuerOf
-returns c = cc
+returns c =
+    let r = c .before .before .before in
+    issuer-law (r .before .before .args .i .now) _ _ (r .read .ensures) (c .key-id-in .ensures)
 
 pub read-issuer-spec : {M : Type 1} → statement M
 read-issuer-spec = tie.close (tie.spec read-requires key-id-in-requires returns)

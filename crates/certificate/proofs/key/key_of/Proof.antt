@@ -1,6 +1,6 @@
 -- `certificate::key_of` meets its contract. Assumes nothing.
 use borrow.Author.Needs.{needs}
-use Rattle.certificate.specs.Key.{keyOf}
+use Rattle.certificate.proofs.Laws.Members.{key-law}
 use Rattle.certificate.proofs.key.key_of.Statement.{statement}
 use Rattle.certificate.proofs.key.key_of.Tie as tie
 
@@ -23,8 +23,13 @@ kind-of-requires : tie.Need-kind-of-requires
 kind-of-requires c κs = search needs
 
 returns : tie.Need-returns
-unfolding keyOf
-returns c = cc
+returns c =
+    let m = c .before in
+    let b = m .before in
+    let p = b .before in
+    let i = p .before in
+    let a = i .before in
+    key-law (a .before .before .args .s .now) (a .before .before .args .key) _ _ _ _ _ _ (a .first-in .ensures) (i .first-in2 .ensures) (p .after .ensures) (b .after2 .ensures) (m .minus .ensures) (c .kind-of .ensures)
 
 pub key-of-spec : {M : Type 1} → statement M
 key-of-spec =

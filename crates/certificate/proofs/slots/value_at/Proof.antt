@@ -1,6 +1,6 @@
 -- `certificate::value_at` meets its contract. Assumes nothing.
 use borrow.Author.Needs.{needs}
-use Rattle.certificate.specs.Slots.{valueAt}
+use Rattle.certificate.proofs.Laws.Members.{value-law}
 use Rattle.certificate.proofs.slots.value_at.Statement.{statement}
 use Rattle.certificate.proofs.slots.value_at.Tie as tie
 
@@ -14,8 +14,11 @@ first-in-requires : tie.Need-first-in-requires
 first-in-requires c κs = search needs
 
 returns : tie.Need-returns
-unfolding valueAt
-returns c = cc
+returns c =
+    let h = c .before in
+    let n = h .before in
+    let a = n .before .before .before .args in
+    value-law (a .s .now) (a .values .now) (a .slot) _ _ _ (n .number-at .ensures) (h .holder-at .ensures) (c .first-in .ensures)
 
 pub value-at-spec : {M : Type 1} → statement M
 value-at-spec =
