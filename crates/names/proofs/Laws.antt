@@ -3,5 +3,6 @@ pub mod Tests
 pub mod Any
 pub mod Names
 pub mod Hosts
+pub mod Labels
 pub mod Uris
 pub mod Points

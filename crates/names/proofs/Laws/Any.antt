@@ -1,6 +1,7 @@
 -- At least one of the elements of a list.
---     any-done      none left
---     any-next      the first, which is h, or one of those after it
+--     forward                    an element ends after it starts, and within its list
+--     any-done                   none left
+--     any-next                   the first, which is h, or one of those after it
 --     any-found, any-missed      by what the test says of h
 -- Assumes nothing.
 use mathlib.Core.Path.{_≡_, ap, _∙_}
@@ -10,11 +11,15 @@ use Prim.Native.Nat.{ℕ, _≤_, _<_}
 use Rattle.names.specs.Names.{anyOf}
 use Rattle.der.specs.Header.{headOf, childrenOf}
 use Rattle.der.specs.declared.header.Head.{Head}
+use Rattle.der.proofs.Laws.Header.{head-forward}
 use Rattle.der.proofs.Laws.Children.{children-done, children-next}
 
 pub any-done : (test : Head → Bool) (s : List ℕ) (at end : ℕ) → end ≤ at → anyOf test (childrenOf s at end) ≡ false
 unfolding anyOf
 any-done test s at end l = rw (children-done s at end l)
+
+pub forward : (s : List ℕ) (at end : ℕ) (h : Head) → at < end → h ≡ headOf s at end → (at < h .end) × (h .end ≤ end)
+forward s at end h l e = rw e (head-forward s at end l)
 
 module _ (test : Head → Bool) (s : List ℕ) (at end : ℕ) (h : Head) (l : at < end) (e : h ≡ headOf s at end) where
   pub any-next : anyOf test (childrenOf s at end) ≡ (test h || anyOf test (childrenOf s (h .end) end))

@@ -1,5 +1,6 @@
 -- Host names: the labels judged in one pass.
 --     has-done, has-found, has-next      octets from the kth on, searched for one
+--     labels-some                        a name has a label
 --     scan-labels                        the labels judged one by one are those judged in one pass
 --     scan-done, scan-bad, scan-next     the pass from the kth octet on
 --     size-grows                         a label grows by one octet at most
@@ -125,7 +126,7 @@ abbrev judged : Bool → List ℕ → List ℕ → Bool
 judged dotted label bs = (dotted || leb 2 (length (labelsFrom label bs))) && labelsOk (labelsFrom label bs)
 
 -- a name has a label, even if an empty one
-labels-some : (label bs : List ℕ) → 1 ≤ length (labelsFrom label bs)
+pub labels-some : (label bs : List ℕ) → 1 ≤ length (labelsFrom label bs)
 unfolding labelsFrom
 labels-some label [] = omega arith
 labels-some label (b ∷ bs) = go (λ l. labels-some l bs) (eqb b 46)

@@ -12,8 +12,7 @@ use Rattle.octets.specs.Octets.{octetsFrom}
 use Rattle.octets.specs.Same.{sameBy, lowerCase}
 use Rattle.octets.proofs.Laws.Same.{same-done, same-next, same-apart}
 use Rattle.der.specs.Header.{childrenOf}
-use Rattle.der.proofs.Laws.Header.{head-forward}
-use Rattle.names.proofs.Laws.Any.{any-done}
+use Rattle.names.proofs.Laws.Any.{any-done, forward}
 use Rattle.names.proofs.Laws.Names.{named-skip, named-enter}
 use Rattle.names.proofs.named.some_same.Statement.{statement}
 use Rattle.names.proofs.named.some_same.Tie as tie
@@ -45,8 +44,8 @@ names-less c =
     let k = c .before .before .before in
     let p = k .before .before in
     let a = p .before .before .args in
-    let f = head-forward (a .s .now) (p .names .i) (a .end) (k .before .names-test .taken) in
-    rw (k .head-at .ensures) (omega arith)
+    let f = forward (a .s .now) (p .names .i) (a .end) (k .head-at .result) (k .before .names-test .taken) (k .head-at .ensures) in
+    omega arith
 
 names-again : tie.Need-names-again Inv-loop μ-loop Inv-names μ-names
 names-again c =
@@ -80,8 +79,8 @@ names-less-2 c =
     let k = q .before .before .before .before in
     let p = k .before .before in
     let a = p .before .before .args in
-    let f = head-forward (a .s .now) (p .names .i) (a .end) (k .before .names-test .taken) in
-    rw (k .head-at .ensures) (omega arith)
+    let f = forward (a .s .now) (p .names .i) (a .end) (k .head-at .result) (k .before .names-test .taken) (k .head-at .ensures) in
+    omega arith
 
 names-again-2 : tie.Need-names-again-2 Inv-loop μ-loop Inv-names μ-names
 names-again-2 c =

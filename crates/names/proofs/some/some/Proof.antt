@@ -6,8 +6,7 @@ use borrow.Author.Needs.{needs}
 use Rattle.names.specs.Names.{anyOf}
 use Rattle.names.specs.Sought.{picked}
 use Rattle.der.specs.Header.{childrenOf}
-use Rattle.der.proofs.Laws.Header.{head-forward}
-use Rattle.names.proofs.Laws.Any.{any-done, any-found, any-missed}
+use Rattle.names.proofs.Laws.Any.{any-done, any-found, any-missed, forward}
 use Rattle.names.proofs.some.some.Statement.{statement}
 use Rattle.names.proofs.some.some.Tie as tie
 
@@ -38,8 +37,8 @@ loop-less c =
     let k = c .before .before in
     let p = k .before .before in
     let a = p .before .before .args in
-    let f = head-forward (a .s .now) (p .loop .i) (a .end) (k .before .loop-test .taken) in
-    rw (k .head-at .ensures) (omega arith)
+    let f = forward (a .s .now) (p .loop .i) (a .end) (k .head-at .result) (k .before .loop-test .taken) (k .head-at .ensures) in
+    omega arith
 
 loop-again : tie.Need-loop-again Inv-loop μ-loop
 loop-again c =
