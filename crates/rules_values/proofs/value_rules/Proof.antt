@@ -1,15 +1,10 @@
+-- `rules_values::value_rules` meets its contract. Assumes nothing.
+use mathlib.Core.Path.{_∙_}
+use Rattle.report.proofs.Laws.Putting.{_⨾_}
+use Rattle.rules_values.specs.Rules.{valueFindings}
 use borrow.Author.Needs.{needs}
 use Rattle.rules_values.proofs.value_rules.Statement.{statement}
 use Rattle.rules_values.proofs.value_rules.Tie as tie
-use Rattle.rules_values.proofs.value_rules.Reads as reads
-use Rattle.rules_values.proofs.value_rules.Lts as lts
-use Rattle.rules_values.proofs.access.access_rules.Reads as access-rules-reads
-use Rattle.rules_values.proofs.hosts.host_rules.Reads as host-rules-reads
-use Rattle.rules_values.proofs.identifiers.identifier_rules.Reads as identifier-rules-reads
-use Rattle.rules_values.proofs.points.point_rules.Reads as point-rules-reads
-use Rattle.rules_values.proofs.policies.policy_rules.Reads as policy-rules-reads
-use Rattle.rules_values.proofs.purposes.purpose_rules.Reads as purpose-rules-reads
-use Rattle.rules_values.proofs.usage.usage_rules.Reads as usage-rules-reads
 
 identifier-rules-requires : tie.Need-identifier-rules-requires
 identifier-rules-requires c κs = search needs
@@ -33,10 +28,33 @@ point-rules-requires : tie.Need-point-rules-requires
 point-rules-requires c κs = search needs
 
 same-length : tie.Need-same-length
-same-length c = ?
+same-length c =
+    let seventh = c .before .before in
+    let sixth = seventh .before .before .before .before in
+    let fifth = sixth .before .before .before .before in
+    let fourth = fifth .before .before .before .before in
+    let third = fourth .before .before .before .before in
+    let second = third .before .before .before .before in
+    let first = second .before .before .before .before in
+    seventh .point-rules .kept .0 ∙ sixth .access-rules .kept .0 ∙ fifth .host-rules .kept .0 ∙ fourth .policy-rules .kept .0 ∙ third .purpose-rules .kept .0 ∙ second .usage-rules .kept .0 ∙ first .identifier-rules .kept .0
 
 returns : tie.Need-returns
-returns c = ?
+unfolding valueFindings
+returns c =
+    let seventh = c .before .before in
+    let sixth = seventh .before .before .before .before in
+    let fifth = sixth .before .before .before .before in
+    let fourth = fifth .before .before .before .before in
+    let third = fourth .before .before .before .before in
+    let second = third .before .before .before .before in
+    let first = second .before .before .before .before in
+    first .identifier-rules .ensures
+    ⨾ second .usage-rules .ensures
+    ⨾ third .purpose-rules .ensures
+    ⨾ fourth .policy-rules .ensures
+    ⨾ fifth .host-rules .ensures
+    ⨾ sixth .access-rules .ensures
+    ⨾ seventh .point-rules .ensures
 
 pub value-rules-spec : {M : Type 1} → statement M
 value-rules-spec =

@@ -1,13 +1,9 @@
+-- `rules_values::policies::policy_rules` meets its contract. Assumes nothing.
+use Rattle.report.proofs.Laws.Putting.{_⨾_}
+use Rattle.rules_values.specs.Policies.{policyFindings}
 use borrow.Author.Needs.{needs}
 use Rattle.rules_values.proofs.policies.policy_rules.Statement.{statement}
 use Rattle.rules_values.proofs.policies.policy_rules.Tie as tie
-use Rattle.rules_values.proofs.policies.policy_rules.Reads as reads
-use Rattle.rules_values.proofs.policies.policy_rules.Lts as lts
-use Rattle.certificate.proofs.value_at.Reads as value-at-reads
-use Rattle.report.proofs.note.Reads as note-reads
-use Rattle.rules_values.proofs.policies.lacks_forum.Reads as lacks-forum-reads
-use Rattle.rules_values.proofs.policies.qualifiers.Reads as qualifiers-reads
-use Rattle.values.proofs.none_below.Reads as none-below-reads
 
 value-at-requires : tie.Need-value-at-requires
 value-at-requires c κs = search needs
@@ -31,7 +27,15 @@ same-length : tie.Need-same-length
 same-length c = search needs
 
 returns : tie.Need-returns
-returns c = ?
+unfolding policyFindings
+returns c =
+    let third = c .before .before in
+    let second = third .before .before .before .before in
+    let first = second .before .before .before .before in
+    let forum = first .before .before in
+    let below = forum .before in
+    rw (← below .before .before .value-at .ensures, ← below .none-below .ensures, ← forum .lacks-forum .ensures)
+    (first .note .ensures ⨾ second .note2 .ensures ⨾ third .qualifiers .ensures)
 
 pub policy-rules-spec : {M : Type 1} → statement M
 policy-rules-spec =
