@@ -1,5 +1,6 @@
 -- What is read of a certificate lies within its octets, whether it is accepted or not.
 --     between-head, between-wider                             a header that is read; a wider stretch
+--     between-spans                                           an element ends no earlier than it starts
 --     between-first, between-after, between-past, between-tag members of an element
 --     certificate-inside                                      the fields
 --     members-inside                                          the members of a list, so also the extensions
@@ -10,6 +11,7 @@ use mathlib.Core.Path.{_≡_, refl}
 use mathlib.Core.List.{List}
 use mathlib.Core.Bool.{Bool, true, false, cond, _||_}
 use Prim.Native.Nat.{ℕ, _≤_}
+use native.Mathlib.Nat.{le-trans}
 use native.Mathlib.Omega.{arith}
 use lib.ListN.{length, getD, List·getD-eq-default}
 use lib.Dec.{ltb, eqb}
@@ -33,6 +35,9 @@ use Rattle.certificate.proofs.Laws.Slots.{start-at, value-start, value-
 
 pub between-wider : (a b c d : ℕ) (h : Head) → a ≤ b → c ≤ d → Between b c h → Between a d h
 between-wider a b c d h l m k = record { starts = omega (arith, k .starts); holds = k .holds; forward = k .forward; ends = omega (arith, k .ends) }
+
+pub between-spans : {from to : ℕ} {h : Head} → Between from to h → h .at ≤ h .end
+between-spans k = le-trans (k .holds) (k .forward)
 
 between-none : (at end : ℕ) → at ≤ end → Between at end (brokenHead at end)
 between-none at end l = record { starts = omega arith; holds = l; forward = omega arith; ends = omega arith }
