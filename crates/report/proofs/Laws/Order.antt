@@ -1,5 +1,6 @@
 -- The order of a report, and the bounds of its places.
 --     none-ordered, join-ordered, only-ordered       no entries; those of lower rules, and then others; under a condition
+--     wider-ordered                                  as entries of more rules
 --     noted-ordered, each-ordered, one-ordered       the entries of one rule
 --     twice-ordered                                  a rule that judges two elements, the one before the other
 --     none-inside, join-inside, only-inside, noted-inside, each-inside, one-inside      the same of bounds
@@ -60,6 +61,12 @@ join-ordered {from} {mid} {to} {es} {fs} p q =
 
     below : (e f : Entry) → In e es → In f fs → e .rule < f .rule
     below e f m n = let r = p .rules e m in let s = q .rules f n in omega arith
+
+pub wider-ordered : {from to less more : ℕ} {es : List Entry} → less ≤ from → to ≤ more → Ordered from to es → Ordered less more es
+wider-ordered {from} {to} {less} {more} {es} a b p = record { span = le-trans a (le-trans (p .span) b); rules = wide; rising = p .rising }
+  where
+    wide : (e : Entry) → In e es → (less ≤ e .rule) × (e .rule < more)
+    wide e m = let r = p .rules e m in (omega arith, omega arith)
 
 pub only-ordered : {from to : ℕ} {es : List Entry} (judged : Bool) → Ordered from to es → Ordered from to (onlyIf judged es)
 only-ordered true p = p
