@@ -1,9 +1,13 @@
 // The linter: a certificate, its issuer's and a profile in, a refusal or the findings out.
 mod judging;
+mod linting;
 mod refusals;
+mod rules;
 
 pub use judging::Judgement;
 pub use judging::judge;
+pub use linting::Answer;
+pub use linting::lint;
 pub use refusals::Refusal;
 pub use refusals::Side;
 pub use refusals::number_of;

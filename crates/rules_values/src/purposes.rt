@@ -11,5 +11,15 @@ pub fn purpose_rules(room: &mut [u8], n: usize, p: Profile, s: &[u8], values: &[
     let list = value.element;
     let lacking = values::no_wanted_purpose(s, list, profiles::is_server(p));
     let a = report::note(room, n, 407, lacking, value.holder);
-    items::each(room, a, 408, Kind::OtherPurpose, p, 0, s, list.body, list.end)
+    items::each(
+        room,
+        a,
+        408,
+        Kind::OtherPurpose,
+        p,
+        0,
+        s,
+        list.body,
+        list.end,
+    )
 }

@@ -2,14 +2,15 @@
 --     qualifiers-turn, qualifiers-end            a loop over the policies
 --     qualifiers-between, qualifiers-apart       they lie in the stretch, and their starts rise
 -- Assumes nothing.
-use mathlib.Core.Path.{_≡_, refl, sym}
+use mathlib.Core.Path.{_≡_, refl}
 use mathlib.Core.Bool.{Bool, true, false}
-use mathlib.Core.List.{List, [], _∷_, _++_, map, List·Memᴰ·not-nil}
+use mathlib.Core.List.{List, [], _++_, map, List·Memᴰ·not-nil}
 use Prim.Native.Nat.{ℕ, _≤_, _<_}
 use native.Mathlib.Nat.{le-refl}
 use native.Mathlib.Omega.{arith}
 use lib.Dec.{leb}
 use borrow.Author.Tests.{leb-true, leb-false}
+use Rattle.rules_values.specs.Policies.{qualifiersIn}
 use Rattle.der.specs.Header.{headOf, childrenOf}
 use Rattle.der.specs.declared.header.Head.{Head}
 use Rattle.der.specs.Walking.{Chain}
@@ -30,7 +31,6 @@ use Rattle.report.specs.Putting.{Put}
 use Rattle.report.proofs.Laws.Forms.{each-none, each-join}
 use Rattle.report.proofs.Laws.Order.{apart-join, between-join, between-wider, children-apart, children-between}
 use Rattle.report.proofs.Laws.Putting.{Rest, rest-step, rest-end}
-use Rattle.rules_values.specs.Policies.{qualifiersIn}
 
 module _ (s : List ℕ) (at end : ℕ) where
   -- list holds the qualifiers of policy, the next one

@@ -1,8 +1,8 @@
 -- `rules_values::value_rules` meets its contract. Assumes nothing.
 use mathlib.Core.Path.{_∙_}
-use Rattle.report.proofs.Laws.Putting.{_⨾_}
-use Rattle.rules_values.specs.Rules.{valueFindings}
 use borrow.Author.Needs.{needs}
+use Rattle.rules_values.specs.Rules.{valueFindings}
+use Rattle.report.proofs.Laws.Putting.{_⨾_}
 use Rattle.rules_values.proofs.value_rules.Statement.{statement}
 use Rattle.rules_values.proofs.value_rules.Tie as tie
 

@@ -1,7 +1,7 @@
 -- `rules_values::access::access_rules` meets its contract. Assumes nothing.
-use Rattle.report.proofs.Laws.Putting.{_⨾_}
-use Rattle.rules_values.specs.Access.{accessFindings}
 use borrow.Author.Needs.{needs}
+use Rattle.rules_values.specs.Access.{accessFindings}
+use Rattle.report.proofs.Laws.Putting.{_⨾_}
 use Rattle.rules_values.proofs.access.access_rules.Statement.{statement}
 use Rattle.rules_values.proofs.access.access_rules.Tie as tie
 

@@ -1,7 +1,7 @@
 -- `rules_values::hosts::host_rules` meets its contract. Assumes nothing.
-use Rattle.report.proofs.Laws.Putting.{_⨾_}
-use Rattle.rules_values.specs.Hosts.{hostFindings}
 use borrow.Author.Needs.{needs}
+use Rattle.rules_values.specs.Hosts.{hostFindings}
+use Rattle.report.proofs.Laws.Putting.{_⨾_}
 use Rattle.rules_values.proofs.hosts.host_rules.Statement.{statement}
 use Rattle.rules_values.proofs.hosts.host_rules.Tie as tie
 

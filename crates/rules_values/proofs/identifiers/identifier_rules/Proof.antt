@@ -1,7 +1,7 @@
 -- `rules_values::identifiers::identifier_rules` meets its contract. Assumes nothing.
-use Rattle.report.proofs.Laws.Putting.{_⨾_}
-use Rattle.rules_values.specs.Identifiers.{identifierFindings}
 use borrow.Author.Needs.{needs}
+use Rattle.rules_values.specs.Identifiers.{identifierFindings}
+use Rattle.report.proofs.Laws.Putting.{_⨾_}
 use Rattle.rules_values.proofs.identifiers.identifier_rules.Statement.{statement}
 use Rattle.rules_values.proofs.identifiers.identifier_rules.Tie as tie
 

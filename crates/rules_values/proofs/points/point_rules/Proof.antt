@@ -1,7 +1,7 @@
 -- `rules_values::points::point_rules` meets its contract. Assumes nothing.
-use Rattle.report.proofs.Laws.Putting.{_⨾_}
-use Rattle.rules_values.specs.Points.{pointFindings}
 use borrow.Author.Needs.{needs}
+use Rattle.rules_values.specs.Points.{pointFindings}
+use Rattle.report.proofs.Laws.Putting.{_⨾_}
 use Rattle.rules_values.proofs.points.point_rules.Statement.{statement}
 use Rattle.rules_values.proofs.points.point_rules.Tie as tie
 

@@ -1,7 +1,7 @@
 -- `rules_values::policies::policy_rules` meets its contract. Assumes nothing.
-use Rattle.report.proofs.Laws.Putting.{_⨾_}
-use Rattle.rules_values.specs.Policies.{policyFindings}
 use borrow.Author.Needs.{needs}
+use Rattle.rules_values.specs.Policies.{policyFindings}
+use Rattle.report.proofs.Laws.Putting.{_⨾_}
 use Rattle.rules_values.proofs.policies.policy_rules.Statement.{statement}
 use Rattle.rules_values.proofs.policies.policy_rules.Tie as tie
 

@@ -4,11 +4,11 @@ use mathlib.Core.Path.{_≡_, refl, _∙_}
 use Prim.Native.Nat.{_-_}
 use native.Mathlib.Omega.{arith}
 use lib.ListN.{length}
+use Rattle.rules_values.specs.Policies.{qualifiersIn}
 use Rattle.der.proofs.Laws.Header.{head-forward}
 use Rattle.values.specs.Policies.{otherQualifier}
 use Rattle.report.specs.Forms.{each}
 use Rattle.report.proofs.Laws.Putting.{Rest, rest-start}
-use Rattle.rules_values.specs.Policies.{qualifiersIn}
 use Rattle.rules_values.proofs.Laws.Qualifiers.{qualifiers-turn, qualifiers-end}
 use Rattle.rules_values.proofs.policies.qualifiers.Statement.{statement}
 use Rattle.rules_values.proofs.policies.qualifiers.Tie as tie

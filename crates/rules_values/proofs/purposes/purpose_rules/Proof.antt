@@ -1,7 +1,7 @@
 -- `rules_values::purposes::purpose_rules` meets its contract. Assumes nothing.
-use Rattle.report.proofs.Laws.Putting.{_⨾_}
-use Rattle.rules_values.specs.Purposes.{purposeFindings}
 use borrow.Author.Needs.{needs}
+use Rattle.rules_values.specs.Purposes.{purposeFindings}
+use Rattle.report.proofs.Laws.Putting.{_⨾_}
 use Rattle.rules_values.proofs.purposes.purpose_rules.Statement.{statement}
 use Rattle.rules_values.proofs.purposes.purpose_rules.Tie as tie
 

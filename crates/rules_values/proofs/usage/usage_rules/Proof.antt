@@ -1,7 +1,7 @@
 -- `rules_values::usage::usage_rules` meets its contract. Assumes nothing.
-use Rattle.report.proofs.Laws.Putting.{_⨾_}
-use Rattle.rules_values.specs.Usage.{usageFindings}
 use borrow.Author.Needs.{needs}
+use Rattle.rules_values.specs.Usage.{usageFindings}
+use Rattle.report.proofs.Laws.Putting.{_⨾_}
 use Rattle.rules_values.proofs.usage.usage_rules.Statement.{statement}
 use Rattle.rules_values.proofs.usage.usage_rules.Tie as tie
 

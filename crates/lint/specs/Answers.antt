@@ -1,0 +1,44 @@
+-- The linter's complete answer: what it says, and what the room holds then.
+use mathlib.Core.Bool.{cond}
+use mathlib.Core.List.{List}
+use mathlib.Core.Path.{_≡_}
+use Prim.Native.Nat.{ℕ}
+use lib.ListN.{length}
+use Rattle.report.specs.Answers.{fits, filled}
+use Rattle.report.specs.declared.sink.Entry.{Entry}
+use Rattle.lint.specs.Findings.{findings}
+use Rattle.lint.specs.Judging.{judgementOf}
+use Rattle.lint.specs.declared.judging.Judgement.{Judgement}
+use Rattle.lint.specs.declared.judging.Judgement.the-variants as Judgements
+use Rattle.lint.specs.declared.refusals.Refusal.the-variants.{NoRoom}
+use Rattle.lint.specs.declared.linting.Answer.{Answer}
+use Rattle.lint.specs.declared.linting.Answer.the-variants.{Report, Refused}
+
+-- 7 "too little room", else the number of findings
+unfoldable pub answerTo : List Entry → List ℕ → Answer
+answerTo es room = cond (fits es room) (Report (length es)) (Refused NoRoom)
+
+-- the answer to findings, and the room then: the findings' octets and the rest of the room, or on refusal the room as it was
+pub record Reported (es : List Entry) (room : List ℕ) (r : Answer) (last : List ℕ) : Type 0 where
+  pub told : r ≡ answerTo es room
+  pub bytes : last ≡ filled es room
+
+-- by refusals 1 to 6
+abbrev pub answerBy : Judgement → List ℕ → List ℕ → List ℕ → Answer
+answerBy (Judgements.Refused r) certificate issuer room = Refused r
+answerBy (Judgements.Accepted p) certificate issuer room = answerTo (findings p certificate issuer) room
+
+abbrev pub roomBy : Judgement → List ℕ → List ℕ → List ℕ → List ℕ
+roomBy (Judgements.Refused r) certificate issuer room = room
+roomBy (Judgements.Accepted p) certificate issuer room = filled (findings p certificate issuer) room
+
+unfoldable pub answerOf : List ℕ → List ℕ → ℕ → List ℕ → Answer
+answerOf certificate issuer profile room = answerBy (judgementOf certificate issuer profile) certificate issuer room
+
+unfoldable pub roomOf : List ℕ → List ℕ → ℕ → List ℕ → List ℕ
+roomOf certificate issuer profile room = roomBy (judgementOf certificate issuer profile) certificate issuer room
+
+-- the whole of it
+pub record Answered (certificate issuer : List ℕ) (profile : ℕ) (room : List ℕ) (r : Answer) (last : List ℕ) : Type 0 where
+  pub told : r ≡ answerOf certificate issuer profile room
+  pub bytes : last ≡ roomOf certificate issuer profile room
