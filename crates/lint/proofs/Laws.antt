@@ -1,2 +1,4 @@
 -- Laws of the definitions, by file.
 pub mod Answers
+pub mod Accepted
+pub mod Order
