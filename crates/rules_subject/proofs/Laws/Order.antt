@@ -10,7 +10,6 @@ use native.Mathlib.Omega.{arith}
 use Rattle.rules_subject.specs.Attributes.{attributesIn, isA, rule112, rule113, rule114, rule115, rule116, rule117, rule118, rule119, everySubject, organizationFindings, stateFindings}
 use Rattle.rules_subject.specs.CommonName.{firstCommonName, rule120, rule121, nameAndSets}
 use Rattle.rules_subject.specs.Rules.{subjectFindings}
-use Rattle.der.specs.Header.{childrenOf}
 use Rattle.der.specs.declared.header.Head.{Head}
 use Rattle.profiles.specs.Fields.{isDomain, isOrganization}
 use Rattle.profiles.specs.declared.fields.Profile.{Profile}
