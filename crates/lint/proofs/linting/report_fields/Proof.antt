@@ -35,8 +35,10 @@ returns-2 c =
     let written = c .before .before in
     let test = written .before .before .before in
     let fit = test .before in
-    let a = fit .before .before .before .before .before .before .before .before .before .before .args in
-    reported-written _ (a .room .now) (fit .before .before .before .all-rules .ensures) (fit .has-room .ensures) (test .if1 .left) (search needs) (written .all-rules2 .ensures)
+    let known = fit .before .before .before .before .before .before .before .before .before in
+    let a = known .before .args in
+    let given = known .slice-known .given in
+    reported-written _ (a .room .now) (fit .before .before .before .all-rules .ensures) (fit .has-room .ensures) (test .if1 .left) (search (needs, given)) (written .all-rules2 .ensures)
 
 same-length-3 : tie.Need-same-length-3
 same-length-3 c = search needs
@@ -45,8 +47,10 @@ returns-3 : tie.Need-returns-3
 returns-3 c =
     let test = c .before in
     let fit = test .before in
-    let a = fit .before .before .before .before .before .before .before .before .before .before .args in
-    reported-none _ (a .room .now) (fit .before .before .before .all-rules .ensures) (fit .has-room .ensures) (test .if1 .left) (search needs) (c .if2 .left)
+    let known = fit .before .before .before .before .before .before .before .before .before in
+    let a = known .before .args in
+    let given = known .slice-known .given in
+    reported-none _ (a .room .now) (fit .before .before .before .all-rules .ensures) (fit .has-room .ensures) (test .if1 .left) (search (needs, given)) (c .if2 .left)
 
 pub report-fields-spec : {M : Type 1} → statement M
 report-fields-spec =
