@@ -1,14 +1,15 @@
 -- The extensions of a certificate (RFC 5280, 4.1.2.9), and their slots in document 01's table, "Rules on extensions".
 use mathlib.Core.List.{List, [], _∷_}
-use mathlib.Core.Bool.{Bool, false, cond, _||_}
+use mathlib.Core.Bool.{Bool, cond}
 use Prim.Native.Nat.{ℕ, _+_}
 use lib.Dec.{eqb}
+use Rattle.certificate.specs.Members.{firstIn, after, past}
+use Rattle.certificate.specs.declared.extensions.Extension.{Extension}
 use Rattle.octets.specs.Same.{sameBy, exactly}
 use Rattle.der.specs.Header.{childrenOf}
 use Rattle.der.specs.Contents.{contentsOf}
 use Rattle.der.specs.declared.header.Head.{Head}
-use Rattle.certificate.specs.Members.{firstIn, after, past}
-use Rattle.certificate.specs.declared.extensions.Extension.{Extension}
+use Rattle.der.specs.Elements.{anyOf}
 
 -- ---- Extension: extnID, critical BOOLEAN DEFAULT FALSE, extnValue
 
@@ -89,10 +90,6 @@ isPeriod s h = sameBy exactly (identifierOf s h) (certificateExtension 16)
 
 abbrev pub sameIdentifier : List ℕ → Head → Head → Bool
 sameIdentifier s a b = sameBy exactly (identifierOf s a) (identifierOf s b)
-
-unfoldable pub anyOf : (Head → Bool) → List Head → Bool
-anyOf p [] = false
-anyOf p (h ∷ hs) = p h || anyOf p hs
 
 -- some extension of a list that starts at from, before the extension h, has its identifier
 unfoldable pub seenBefore : List ℕ → ℕ → Head → Bool

@@ -5,7 +5,6 @@ use crate::members::past;
 use der::Head;
 ghost use mathlib.Core.Path.{_≡_};
 ghost use Rattle.octets.specs.Octets.{octetsFrom};
-ghost use Rattle.octets.specs.Same.{sameBy, exactly};
 ghost use Rattle.certificate.specs.Extensions.{extensionOf, slotBy, slotFor, slotOf, isPeriod, sameIdentifier, seenBefore};
 
 pub struct Extension {
@@ -83,26 +82,17 @@ pub fn is_period(s: &[u8], h: Head) -> bool
     octets::equals(s, i.body, octets::minus(i.end, i.body), b"\x55\x1D\x10")
 }
 
-// Whether the n octets from a on are the m octets from b on.
-fn same_octets(s: &[u8], a: usize, n: usize, b: usize, m: usize) -> bool
-    ensures { λ r. ⌜ r ≡ sameBy exactly (octetsFrom (now (s .entry)) a n) (octetsFrom (now (s .entry)) b m) ⌝ }
-{
-    if n == m {
-        return octets::same(s, a, s, b, n);
-    }
-    false
-}
-
 // Whether two Extensions have one identifier.
 pub fn same_identifier(s: &[u8], a: Head, b: Head) -> bool
     ensures { λ r. ⌜ r ≡ sameIdentifier (now (s .entry)) a b ⌝ }
 {
     let i = first_in(s, a);
     let j = first_in(s, b);
-    same_octets(
+    octets::same_stretch(
         s,
         i.body,
         octets::minus(i.end, i.body),
+        s,
         j.body,
         octets::minus(j.end, j.body),
     )

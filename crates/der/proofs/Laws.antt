@@ -3,5 +3,6 @@ pub mod Header
 pub mod Contents
 pub mod Order
 pub mod Children
+pub mod Any
 pub mod Walks
 pub mod Walking

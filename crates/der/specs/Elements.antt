@@ -1,6 +1,6 @@
 -- The elements within an element, as the walk meets them.
 use mathlib.Core.List.{List, [], _∷_, _++_}
-use mathlib.Core.Bool.{cond}
+use mathlib.Core.Bool.{Bool, false, cond, _||_}
 use Prim.Native.Nat.{ℕ, zero, suc}
 use Rattle.der.specs.Header.{childrenOf}
 use Rattle.der.specs.Contents.{constructed}
@@ -27,3 +27,8 @@ elementsOf s (suc levels) h = record { head = h; levels = suc levels } ∷ joine
 -- the members of a list and all that they hold
 abbrev pub membersOf : List ℕ → ℕ → ℕ → ℕ → List Node
 membersOf s levels at end = joined (elementsOf s levels) (childrenOf s at end)
+
+-- at least one of the elements passes a test
+unfoldable pub anyOf : (Head → Bool) → List Head → Bool
+anyOf test [] = false
+anyOf test (h ∷ hs) = test h || anyOf test hs

@@ -3,13 +3,13 @@ use mathlib.Core.Path.{_≡_, refl}
 use mathlib.Core.List.{List, [], _∷_, _++_, map}
 use mathlib.Core.Bool.{true, false}
 use Prim.Native.Nat.{ℕ, zero, suc}
-use Rattle.names.specs.Names.{anyOf}
 use Rattle.names.specs.Hosts.{labelOctets, labelsFrom, labelsOk, hostOf, isPlain}
 use Rattle.names.specs.Uris.{word, beginsHttp}
 use Rattle.names.specs.Points.{isRestricted, httpFullName}
 use Rattle.octets.specs.Octets.{octetsFrom}
 use Rattle.octets.specs.Same.{sameBy}
 use Rattle.der.specs.Header.{headOf, childrenOf, childrenBy}
+use Rattle.der.specs.Elements.{anyOf}
 
 abbrev exes : ℕ → List ℕ
 exes zero = []

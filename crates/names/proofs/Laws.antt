@@ -1,6 +1,5 @@
 -- Laws of the definitions, by file.
 pub mod Tests
-pub mod Any
 pub mod Names
 pub mod Hosts
 pub mod Labels

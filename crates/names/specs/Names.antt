@@ -1,16 +1,12 @@
 -- Names (RFC 5280, 4.2.1.6: GeneralName), and the rule that holds a common name to them.
-use mathlib.Core.List.{List, [], _∷_}
-use mathlib.Core.Bool.{Bool, false, _&&_, _||_}
+use mathlib.Core.List.{List}
+use mathlib.Core.Bool.{Bool, _&&_}
 use Prim.Native.Nat.{ℕ}
 use lib.Dec.{eqb}
 use Rattle.octets.specs.Same.{sameBy, lowerCase}
 use Rattle.der.specs.Contents.{contentsOf}
 use Rattle.der.specs.declared.header.Head.{Head}
-
--- whether the test picks at least one of several elements
-unfoldable pub anyOf : (Head → Bool) → List Head → Bool
-anyOf test [] = false
-anyOf test (h ∷ hs) = test h || anyOf test hs
+use Rattle.der.specs.Elements.{anyOf}
 
 -- dNSName [2] IA5String: tag 82 hex
 abbrev pub isDnsName : Head → Bool

@@ -7,10 +7,10 @@ use mathlib.Core.List.{List, []}
 use mathlib.Core.Bool.{Bool, cond, _&&_, _||_}
 use Prim.Native.Nat.{ℕ}
 use lib.Dec.{eqb}
-use Rattle.names.specs.Names.{anyOf}
 use Rattle.names.specs.Uris.{isHttp}
 use Rattle.der.specs.Header.{headOf, childrenOf}
 use Rattle.der.specs.declared.header.Head.{Head}
+use Rattle.der.specs.Elements.{anyOf}
 
 -- reasons, tag 81 hex, or cRLIssuer, tag A2 hex
 abbrev pub isRestriction : Head → Bool

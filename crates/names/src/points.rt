@@ -4,8 +4,8 @@ use crate::some::some;
 use der::Head;
 ghost use mathlib.Core.Path.{_≡_};
 ghost use Rattle.der.specs.Header.{childrenOf};
-ghost use Rattle.names.specs.Names.{anyOf};
 ghost use Rattle.names.specs.Points.{isRestricted, httpFullName};
+ghost use Rattle.der.specs.Elements.{anyOf};
 
 // Rule 419: a point with reasons or cRLIssuer.
 pub fn restricted(s: &[u8], h: Head) -> bool

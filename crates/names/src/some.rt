@@ -5,11 +5,11 @@ use crate::uris::is_http;
 use der::Head;
 ghost use mathlib.Core.Path.{_≡_};
 ghost use Rattle.der.specs.Header.{childrenOf};
-ghost use Rattle.names.specs.Names.{anyOf};
 ghost use Rattle.names.specs.Uris.{isHttp};
 ghost use Rattle.names.specs.Access.{uriBy};
 ghost use Rattle.names.specs.Points.{isRestriction};
 ghost use Rattle.names.specs.Sought.{picked};
+ghost use Rattle.der.specs.Elements.{anyOf};
 
 // What is looked for: an entry with a method and a URI, a name that is an HTTP URI, or a field that restricts a
 // distribution point.

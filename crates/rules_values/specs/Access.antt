@@ -8,7 +8,6 @@ use Rattle.profiles.specs.declared.fields.Profile.{Profile}
 use Rattle.certificate.specs.Slots.{valueAt}
 use Rattle.certificate.specs.declared.slots.Value.{Value}
 use Rattle.values.specs.Items.{itemsOf}
-use Rattle.names.specs.Names.{anyOf}
 use Rattle.names.specs.Access.{uriBy}
 use Rattle.names.specs.declared.access.Method.{Method}
 use Rattle.names.specs.declared.access.Method.the-variants.{Ocsp, CaIssuers}
@@ -16,6 +15,7 @@ use Rattle.items.specs.Kinds.{isNotHttp}
 use Rattle.report.specs.Entries.{noted}
 use Rattle.report.specs.Forms.{each}
 use Rattle.report.specs.declared.sink.Entry.{Entry}
+use Rattle.der.specs.Elements.{anyOf}
 
 -- the value is judged, and has no entry with this method and a URI
 abbrev pub lacksUri : List ℕ → Head → Method → Bool

@@ -6,11 +6,11 @@ use Rattle.der.specs.declared.header.Head.{Head}
 use Rattle.certificate.specs.Slots.{valueAt}
 use Rattle.certificate.specs.declared.slots.Value.{Value}
 use Rattle.values.specs.Items.{itemsOf}
-use Rattle.names.specs.Names.{anyOf}
 use Rattle.names.specs.Points.{httpFullName, isRestricted}
 use Rattle.report.specs.Entries.{noted}
 use Rattle.report.specs.Forms.{each}
 use Rattle.report.specs.declared.sink.Entry.{Entry}
+use Rattle.der.specs.Elements.{anyOf}
 
 -- the value is judged, and no full name has an HTTP URI
 abbrev pub lacksHttp : List ℕ → Head → Bool

@@ -5,7 +5,7 @@ use mathlib.Core.Bool.{Bool, true, false, not, _&&_}
 use Prim.Native.Nat.{ℕ}
 use lib.ListN.{length}
 use lib.Dec.{eqb}
-use Rattle.values.specs.Items.{firstItem, contentsAre, anyOf}
+use Rattle.values.specs.Items.{firstItem, contentsAre}
 use Rattle.values.specs.Identifiers.{KeyIdentifier, otherAuthority, notEmpty, notTwenty}
 use Rattle.values.specs.Usage.{bitAt, anyBelow, unsignedOf, otherBits, otherUsage}
 use Rattle.values.specs.Purposes.{noWantedPurpose, otherPurpose}
@@ -15,6 +15,7 @@ use Rattle.octets.specs.Same.{sameBy}
 use Rattle.octets.specs.Numbers.{numberFrom}
 use Rattle.der.specs.Header.{headOf, brokenHead, childrenOf, childrenBy}
 use Rattle.der.specs.declared.header.Head.{Head}
+use Rattle.der.specs.Elements.{anyOf}
 
 -- what a rule says, and what is right: true is broken
 pub record Example : Type 0 where

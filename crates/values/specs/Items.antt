@@ -1,6 +1,6 @@
 -- The items of an extension's value. A value that is "missing or fails 340+s" is a head that is not sound; the rules do not judge it.
 use mathlib.Core.List.{List, [], _∷_}
-use mathlib.Core.Bool.{Bool, false, _||_}
+use mathlib.Core.Bool.{Bool}
 use Prim.Native.Nat.{ℕ}
 use Rattle.octets.specs.Same.{sameBy, exactly}
 use Rattle.der.specs.Header.{brokenHead, childrenOf}
@@ -34,8 +34,3 @@ contentsAre s text h = sameBy exactly (contentsOf s h) text
 -- the OBJECT IDENTIFIER that an element begins with is this one
 abbrev pub identifierIs : List ℕ → List ℕ → Head → Bool
 identifierIs s text h = contentsAre s text (firstItem s h)
-
--- any of the elements passes the test
-unfoldable pub anyOf : (Head → Bool) → List Head → Bool
-anyOf test [] = false
-anyOf test (h ∷ hs) = test h || anyOf test hs

@@ -5,9 +5,10 @@ use mathlib.Core.List.{List, [], _∷_}
 use mathlib.Core.Bool.{Bool, true, false, not, _&&_}
 use Prim.Native.Nat.{ℕ}
 use lib.Dec.{eqb}
-use Rattle.values.specs.Items.{itemsOf, firstItem, secondItem, identifierIs, anyOf}
+use Rattle.values.specs.Items.{itemsOf, firstItem, secondItem, identifierIs}
 use Rattle.der.specs.Contents.{contentsOf}
 use Rattle.der.specs.declared.header.Head.{Head}
+use Rattle.der.specs.Elements.{anyOf}
 
 -- the octets of the arc, and at least one octet more
 unfoldable pub isBelow : List ℕ → List ℕ → Bool

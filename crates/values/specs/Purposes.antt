@@ -2,8 +2,9 @@
 use mathlib.Core.List.{List, [], _∷_}
 use mathlib.Core.Bool.{Bool, cond, not, _&&_, _||_}
 use Prim.Native.Nat.{ℕ}
-use Rattle.values.specs.Items.{itemsOf, contentsAre, anyOf}
+use Rattle.values.specs.Items.{itemsOf, contentsAre}
 use Rattle.der.specs.declared.header.Head.{Head}
+use Rattle.der.specs.Elements.{anyOf}
 
 -- id-kp, 1.3.6.1.5.5.7.3, and one arc more
 abbrev pub keyPurpose : ℕ → List ℕ

@@ -40,11 +40,12 @@ pub fn identifier_is(s: &[u8], text: &[u8], h: Head) -> bool
 pub fn same_contents(s: &[u8], a: Head, t: &[u8], b: Head) -> bool
     ensures { λ r. ⌜ r ≡ sameBy exactly (contentsOf (now (s .entry)) a) (contentsOf (now (t .entry)) b) ⌝ }
 {
-    let from = a.body;
-    let start = b.body;
-    let n = octets::minus(a.end, from);
-    if n == octets::minus(b.end, start) {
-        return octets::same(s, from, t, start, n);
-    }
-    false
+    octets::same_stretch(
+        s,
+        a.body,
+        octets::minus(a.end, a.body),
+        t,
+        b.body,
+        octets::minus(b.end, b.body),
+    )
 }

@@ -4,10 +4,11 @@ use crate::items::first_item;
 use crate::items::identifier_is;
 use der::Head;
 ghost use mathlib.Core.Path.{_≡_};
-ghost use Rattle.values.specs.Items.{itemsOf, anyOf};
+ghost use Rattle.values.specs.Items.{itemsOf};
 ghost use Rattle.values.specs.Purposes.{purposeIs};
 ghost use Rattle.values.specs.Policies.{policyIs, policyBelow};
 ghost use Rattle.values.specs.Wanted.{isWanted};
+ghost use Rattle.der.specs.Elements.{anyOf};
 
 // A purpose of id-kp or a policy of the CA/Browser Forum by its last arc, or a policy below the arc of rule 409.
 pub enum Wanted {

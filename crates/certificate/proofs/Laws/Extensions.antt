@@ -1,23 +1,18 @@
 -- Extensions and their slots.
 --     slot-three, slot-other             the slot of an identifier of three octets, and of any other
---     any-done, any-here, any-next       a test over the elements from a place on
---     octets-apart                       stretches of two lengths are not the same
 -- Assumes nothing.
-use mathlib.Core.Path.{_≡_, refl, sym, ap, _∙_}
+use mathlib.Core.Path.{_≡_, refl, sym, _∙_}
 use mathlib.Core.List.{List, [], _∷_}
-use mathlib.Core.Bool.{Bool, true, false, cond, _&&_, _||_}
-use Prim.Native.Nat.{ℕ, _+_, _≤_, _<_}
+use mathlib.Core.Bool.{Bool, true, false, cond, _&&_}
+use Prim.Native.Nat.{ℕ, _+_}
 use native.Mathlib.Omega.{arith}
 use lib.ListN.{length}
 use lib.Dec.{eqb}
+use Rattle.certificate.specs.Extensions.{certificateExtension, authorityInfoAccess, nocheck, slotBy, slotFor}
 use Rattle.octets.specs.Octets.{octetAt, octetsFrom}
 use Rattle.octets.specs.Same.{sameBy, exactly}
 use Rattle.octets.proofs.Laws.Octets.{octets-long}
 use Rattle.octets.proofs.Laws.Same.{same-length}
-use Rattle.der.specs.Header.{headOf, childrenOf}
-use Rattle.der.specs.declared.header.Head.{Head}
-use Rattle.der.proofs.Laws.Children.{children-done, children-next}
-use Rattle.certificate.specs.Extensions.{certificateExtension, authorityInfoAccess, nocheck, slotBy, slotFor, anyOf}
 
 -- ---- slots
 
@@ -59,25 +54,3 @@ other c h = rw (no 35, no 19, no 14, no 15, no 37, no 32, no 17, no 31)
 -- x and y are whether it is one of the two longer identifiers
 pub slot-other : (s : List ℕ) (body n : ℕ) (x y : Bool) → (n ≡ 3 → ⊥) → x ≡ sameBy exactly (octetsFrom s body n) authorityInfoAccess → y ≡ sameBy exactly (octetsFrom s body n) nocheck → slotFor (octetsFrom s body n) ≡ cond x 8 (cond y 10 0)
 slot-other s body n x y h p q = rw (p, q) (other (octetsFrom s body n) (λ e. h (sym (octets-long s body n) ∙ e)))
-
--- ---- a test over the elements from place i on
-
-pub any-done : (p : Head → Bool) (s : List ℕ) (i end : ℕ) → end ≤ i → anyOf p (childrenOf s i end) ≡ false
-unfolding anyOf
-any-done p s i end h = rw (children-done s i end h)
-
-module _ (p : Head → Bool) (s : List ℕ) (i end : ℕ) (e : Head) (h : i < end) (is : e ≡ headOf s i end) where
-  any-split : anyOf p (childrenOf s i end) ≡ (p e || anyOf p (childrenOf s (e .end) end))
-  unfolding anyOf
-  any-split = rw (children-next s i end h, is)
-
-  pub any-here : p e ≡ true → anyOf p (childrenOf s i end) ≡ true
-  any-here t = any-split ∙ ap (λ (b : Bool). b || anyOf p (childrenOf s (e .end) end)) t
-
-  pub any-next : p e ≡ false → anyOf p (childrenOf s i end) ≡ anyOf p (childrenOf s (e .end) end)
-  any-next t = any-split ∙ ap (λ (b : Bool). b || anyOf p (childrenOf s (e .end) end)) t
-
--- ---- stretches of two lengths
-
-pub octets-apart : (s t : List ℕ) (a n b m : ℕ) → (n ≡ m → ⊥) → sameBy exactly (octetsFrom s a n) (octetsFrom t b m) ≡ false
-octets-apart s t a n b m h = same-length exactly (octetsFrom s a n) (octetsFrom t b m) (λ e. h (sym (octets-long s a n) ∙ (e ∙ octets-long t b m)))

@@ -16,7 +16,7 @@ use Rattle.octets.proofs.Laws.Same.{same-length}
 use Rattle.octets.proofs.Laws.Tests.{and-l, and-r}
 use Rattle.der.specs.Header.{headOf, childrenOf}
 use Rattle.der.specs.declared.header.Head.{Head}
-use Rattle.names.proofs.Laws.Any.{any-next}
+use Rattle.der.proofs.Laws.Any.{any-next}
 
 -- octets of different lengths are not the same
 apart : (s : List ℕ) (a n : ℕ) (h : Head) (tagged same : Bool) → same ≡ eqb (h .end - h .body) n → (tagged && same) ≡ false → (tagged && sameBy lowerCase (octetsFrom s a n) (octetsFrom s (h .body) (h .end - h .body))) ≡ false

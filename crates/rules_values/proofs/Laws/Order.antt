@@ -31,12 +31,11 @@ use Rattle.certificate.specs.Slots.{holderAt, valueAt}
 use Rattle.certificate.specs.declared.key.KeyKind.{KeyKind}
 use Rattle.certificate.specs.declared.slots.Value.{Value}
 use Rattle.certificate.proofs.Laws.Inside.{between-head}
-use Rattle.values.specs.Items.{itemsOf, anyOf}
+use Rattle.values.specs.Items.{itemsOf}
 use Rattle.values.specs.Identifiers.{KeyIdentifier, authorityKey, sameKey, otherAuthority, notEmpty, notTwenty}
 use Rattle.values.specs.Usage.{bitAt, usageOf, digitalSignature, unsignedOf, otherBits, otherUsage}
 use Rattle.values.specs.Purposes.{purposeIs, wantedPurpose, noWantedPurpose}
 use Rattle.values.specs.Policies.{policyBelow, policyIs, noneBelow, lacksPolicy, otherQualifier}
-use Rattle.names.specs.Names.{anyOf as someOf}
 use Rattle.names.specs.Hosts.{noHost}
 use Rattle.names.specs.Access.{uriBy}
 use Rattle.names.specs.Points.{httpFullName, isRestricted}
@@ -48,6 +47,7 @@ use Rattle.report.specs.Forms.{each}
 use Rattle.report.specs.Order.{Ordered, Inside}
 use Rattle.report.proofs.Laws.Order.{noted-ordered, each-ordered, join-ordered, none-inside, noted-inside, each-inside, join-inside, children-apart, children-between, between-wider}
 use Rattle.rules_values.proofs.Laws.Qualifiers.{qualifiers-between, qualifiers-apart}
+use Rattle.der.specs.Elements.{anyOf}
 
 -- ---- order
 
@@ -188,10 +188,10 @@ module _ (s : List ℕ) (v : Head) where
   forum-judged Responder t = absurd (false≢true t)
 
   uri-judged : (method : Method) → lacksUri s v method ≡ true → v .sound ≡ true
-  uri-judged method t = and-l (v .sound) (not (someOf (uriBy s method) (itemsOf s v))) t
+  uri-judged method t = and-l (v .sound) (not (anyOf (uriBy s method) (itemsOf s v))) t
 
   http-judged : lacksHttp s v ≡ true → v .sound ≡ true
-  http-judged t = and-l (v .sound) (not (someOf (httpFullName s) (itemsOf s v))) t
+  http-judged t = and-l (v .sound) (not (anyOf (httpFullName s) (itemsOf s v))) t
 
 -- the forms of the rules
 module _ (s : List ℕ) (v : Value) (l : Lies s v) (rule : ℕ) where

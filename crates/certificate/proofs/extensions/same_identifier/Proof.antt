@@ -1,8 +1,8 @@
 -- `certificate::same_identifier` meets its contract. Assumes nothing.
 use mathlib.Core.Path.{_∙_}
 use borrow.Author.Needs.{needs}
-use Rattle.octets.specs.Same.{sameBy, exactly}
 use Rattle.certificate.specs.Members.{firstIn}
+use Rattle.octets.specs.Same.{sameBy, exactly}
 use Rattle.certificate.proofs.Laws.Members.{contents-read}
 use Rattle.certificate.proofs.extensions.same_identifier.Statement.{statement}
 use Rattle.certificate.proofs.extensions.same_identifier.Tie as tie
@@ -19,8 +19,8 @@ minus-requires c κs = search needs
 minus-requires-2 : tie.Need-minus-requires-2
 minus-requires-2 c κs = search needs
 
-same-octets-requires : tie.Need-same-octets-requires
-same-octets-requires c κs = search needs
+same-stretch-requires : tie.Need-same-stretch-requires
+same-stretch-requires c κs = search needs
 
 returns : tie.Need-returns
 returns c =
@@ -31,7 +31,7 @@ returns c =
     let a = f .before .before .args in
     let one = contents-read (a .s .now) (firstIn (a .s .now) (a .a)) _ _ (f .first-in .ensures) (m .minus .ensures) in
     let two = contents-read (a .s .now) (firstIn (a .s .now) (a .b)) _ _ (g .first-in2 .ensures) (n .minus2 .ensures) in
-    c .same-octets .ensures ∙ (λ k. sameBy exactly (one k) (two k))
+    c .same-stretch .ensures ∙ (λ k. sameBy exactly (one k) (two k))
 
 pub same-identifier-spec : {M : Type 1} → statement M
 same-identifier-spec =
@@ -41,5 +41,5 @@ same-identifier-spec =
     first-in-requires-2
     minus-requires
     minus-requires-2
-    same-octets-requires
+    same-stretch-requires
     returns)

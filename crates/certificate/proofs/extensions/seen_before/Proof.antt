@@ -3,11 +3,12 @@ use mathlib.Core.Path.{_≡_, refl, sym, _∙_}
 use Prim.Native.Nat.{_-_}
 use native.Mathlib.Omega.{arith}
 use borrow.Author.Needs.{needs}
+use Rattle.certificate.specs.Extensions.{sameIdentifier, seenBefore}
 use Rattle.der.specs.Header.{childrenOf}
 use Rattle.der.specs.declared.header.Head.{Head}
 use Rattle.der.proofs.Laws.Header.{head-forward}
-use Rattle.certificate.specs.Extensions.{sameIdentifier, anyOf, seenBefore}
-use Rattle.certificate.proofs.Laws.Extensions.{any-done, any-here, any-next}
+use Rattle.der.proofs.Laws.Any.{any-done, any-found, any-missed}
+use Rattle.der.specs.Elements.{anyOf}
 use Rattle.certificate.proofs.extensions.seen_before.Statement.{statement}
 use Rattle.certificate.proofs.extensions.seen_before.Tie as tie
 
@@ -32,7 +33,7 @@ returns c =
     let k = c .before .before in
     let p = k .before .before in
     let a = p .before .before .args in
-    sym (p .loop .inv ∙ any-here (λ (e : Head). sameIdentifier (a .s .now) e (a .h)) (a .s .now) (p .loop .i) (a .h .at) (k .head-at .result) (k .before .loop-test .taken) (k .head-at .ensures) (sym (c .before .same-identifier .ensures) ∙ c .if1 .taken))
+    sym (p .loop .inv ∙ any-found (λ (e : Head). sameIdentifier (a .s .now) e (a .h)) (a .s .now) (p .loop .i) (a .h .at) (k .head-at .result) (k .before .loop-test .taken) (k .head-at .ensures) (sym (c .before .same-identifier .ensures) ∙ c .if1 .taken))
 
 loop-less : tie.Need-loop-less Inv-loop μ-loop
 loop-less c =
@@ -47,7 +48,7 @@ loop-again c =
     let k = c .before .before in
     let p = k .before .before in
     let a = p .before .before .args in
-    p .loop .inv ∙ any-next (λ (e : Head). sameIdentifier (a .s .now) e (a .h)) (a .s .now) (p .loop .i) (a .h .at) (k .head-at .result) (k .before .loop-test .taken) (k .head-at .ensures) (sym (c .before .same-identifier .ensures) ∙ c .if1 .left)
+    p .loop .inv ∙ any-missed (λ (e : Head). sameIdentifier (a .s .now) e (a .h)) (a .s .now) (p .loop .i) (a .h .at) (k .head-at .result) (k .before .loop-test .taken) (k .head-at .ensures) (sym (c .before .same-identifier .ensures) ∙ c .if1 .left)
 
 returns-2 : tie.Need-returns-2 Inv-loop μ-loop
 returns-2 c =

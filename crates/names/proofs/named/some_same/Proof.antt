@@ -12,7 +12,7 @@ use Rattle.octets.specs.Octets.{octetsFrom}
 use Rattle.octets.specs.Same.{sameBy, lowerCase}
 use Rattle.octets.proofs.Laws.Same.{same-done, same-next, same-apart}
 use Rattle.der.specs.Header.{childrenOf}
-use Rattle.names.proofs.Laws.Any.{any-done, forward}
+use Rattle.der.proofs.Laws.Any.{any-done, forward}
 use Rattle.names.proofs.Laws.Names.{named-skip, named-enter}
 use Rattle.names.proofs.named.some_same.Statement.{statement}
 use Rattle.names.proofs.named.some_same.Tie as tie

@@ -3,10 +3,10 @@ use mathlib.Core.Path.{_≡_, refl, sym, _∙_}
 use Prim.Native.Nat.{_-_}
 use native.Mathlib.Omega.{arith}
 use borrow.Author.Needs.{needs}
-use Rattle.names.specs.Names.{anyOf}
 use Rattle.names.specs.Points.{httpFullName}
 use Rattle.der.specs.Header.{childrenOf}
-use Rattle.names.proofs.Laws.Any.{any-done, any-found, any-missed, forward}
+use Rattle.der.proofs.Laws.Any.{any-done, any-found, any-missed, forward}
+use Rattle.der.specs.Elements.{anyOf}
 use Rattle.names.proofs.points.some_http_point.Statement.{statement}
 use Rattle.names.proofs.points.some_http_point.Tie as tie
 

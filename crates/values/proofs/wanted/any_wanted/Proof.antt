@@ -3,11 +3,11 @@ use mathlib.Core.Path.{_≡_, refl, sym, _∙_}
 use Prim.Native.Nat.{_-_}
 use native.Mathlib.Omega.{arith}
 use borrow.Author.Needs.{needs}
-use Rattle.values.specs.Items.{anyOf}
 use Rattle.values.specs.Wanted.{isWanted}
 use Rattle.der.specs.Header.{childrenOf}
 use Rattle.der.proofs.Laws.Header.{head-forward}
-use Rattle.values.proofs.Laws.Items.{any-done, any-here, any-later}
+use Rattle.der.proofs.Laws.Any.{any-done, any-found, any-missed}
+use Rattle.der.specs.Elements.{anyOf}
 use Rattle.values.proofs.wanted.any_wanted.Statement.{statement}
 use Rattle.values.proofs.wanted.any_wanted.Tie as tie
 
@@ -31,7 +31,7 @@ returns c =
     let k = c .before .before in
     let p = k .before .before in
     let a = p .before .before .args in
-    sym (p .loop .inv ∙ any-here (isWanted (a .s .now) (a .w)) (a .s .now) (p .loop .i) (a .v .end) (k .head-at .result) (c .before .is-wanted .result) (k .before .loop-test .taken) (k .head-at .ensures) (c .before .is-wanted .ensures) (c .if1 .taken))
+    sym (p .loop .inv ∙ any-found (isWanted (a .s .now) (a .w)) (a .s .now) (p .loop .i) (a .v .end) (k .head-at .result) (k .before .loop-test .taken) (k .head-at .ensures) (sym (c .before .is-wanted .ensures) ∙ c .if1 .taken))
 
 loop-less : tie.Need-loop-less Inv-loop μ-loop
 loop-less c =
@@ -46,7 +46,7 @@ loop-again c =
     let k = c .before .before in
     let p = k .before .before in
     let a = p .before .before .args in
-    p .loop .inv ∙ any-later (isWanted (a .s .now) (a .w)) (a .s .now) (p .loop .i) (a .v .end) (k .head-at .result) (c .before .is-wanted .result) (k .before .loop-test .taken) (k .head-at .ensures) (c .before .is-wanted .ensures) (c .if1 .left)
+    p .loop .inv ∙ any-missed (isWanted (a .s .now) (a .w)) (a .s .now) (p .loop .i) (a .v .end) (k .head-at .result) (k .before .loop-test .taken) (k .head-at .ensures) (sym (c .before .is-wanted .ensures) ∙ c .if1 .left)
 
 returns-2 : tie.Need-returns-2 Inv-loop μ-loop
 returns-2 c =

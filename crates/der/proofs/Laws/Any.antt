@@ -8,11 +8,11 @@ use mathlib.Core.Path.{_≡_, ap, _∙_}
 use mathlib.Core.List.{List}
 use mathlib.Core.Bool.{Bool, true, false, _||_}
 use Prim.Native.Nat.{ℕ, _≤_, _<_}
-use Rattle.names.specs.Names.{anyOf}
 use Rattle.der.specs.Header.{headOf, childrenOf}
+use Rattle.der.specs.Elements.{anyOf}
 use Rattle.der.specs.declared.header.Head.{Head}
 use Rattle.der.proofs.Laws.Header.{head-forward}
 use Rattle.der.proofs.Laws.Children.{children-done, children-next}
 
 pub any-done : (test : Head → Bool) (s : List ℕ) (at end : ℕ) → end ≤ at → anyOf test (childrenOf s at end) ≡ false
 unfolding anyOf
