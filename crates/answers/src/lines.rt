@@ -1,0 +1,39 @@
+// Lines of words and numbers. A line is put together first and written at once.
+
+// So many octets hold every line.
+const LINE: usize = 80;
+
+// Puts a text behind the first n octets of a line, as far as the line goes, and answers how many there are then.
+pub fn put_text(line: &mut [u8], n: usize, text: &[u8]) -> usize {
+    let mut at = n;
+    let mut k = 0;
+    while k < text.len() && at < line.len() {
+        line[at] = text[k];
+        at += 1;
+        k += 1;
+    }
+    at
+}
+
+// The same with a number in decimal digits.
+pub fn put_number(line: &mut [u8], n: usize, number: usize) -> usize {
+    let mut digits = [0u8; 20];
+    let k = io::decimal(number as u64, &mut digits);
+    put_text(line, n, &digits[..k])
+}
+
+// Writes the first n octets of a line.
+pub fn write(line: &[u8], n: usize) {
+    if n <= line.len() {
+        io::write_all(1, &line[..n]);
+    }
+}
+
+// Writes a line of a text and a number.
+pub fn say(text: &[u8], number: usize) {
+    let mut line = [0u8; LINE];
+    let a = put_text(&mut line, 0, text);
+    let b = put_number(&mut line, a, number);
+    let c = put_text(&mut line, b, b"\n");
+    write(&line, c);
+}
