@@ -37,14 +37,20 @@ fn call(certificate: &[u8], issuer: &[u8], profile: u8, room: &mut [u8]) {
     io::write_all(1, room);
 }
 
+fn say_no_call() {
+    io::write_all(1, b"no call\n");
+}
+
 // Answers a frame of kind 12 with a part of the room that is lent.
 pub fn answer_call(frame: &[u8], room: &mut [u8]) {
     let profile = octets::octet(frame, 0);
     let size = 65536 * octets::wide(octets::octet(frame, 1)) + octets::pair(frame, 2);
     let cut = 6 + octets::pair(frame, 4);
-    if cut <= frame.len() && size <= room.len() {
-        call(&frame[6..cut], &frame[cut..], profile, &mut room[..size]);
-    } else {
-        io::write_all(1, b"no call\n");
+    if frame.len() < cut {
+        return say_no_call();
     }
+    if room.len() < size {
+        return say_no_call();
+    }
+    call(&frame[6..cut], &frame[cut..], profile, &mut room[..size]);
 }

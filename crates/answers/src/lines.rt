@@ -7,7 +7,10 @@ const LINE: usize = 80;
 pub fn put_text(line: &mut [u8], n: usize, text: &[u8]) -> usize {
     let mut at = n;
     let mut k = 0;
-    while k < text.len() && at < line.len() {
+    while k < text.len() {
+        if at >= line.len() {
+            return at;
+        }
         line[at] = text[k];
         at += 1;
         k += 1;
