@@ -2,4 +2,6 @@
 pub mod Refusals
 pub mod Judging
 pub mod Findings
+pub mod Table
 pub mod Answers
+pub mod Statements

@@ -1,2 +1,2 @@
--- Laws of the definitions.
+-- Laws of the definitions, which the layers above cite.
 pub mod Laws

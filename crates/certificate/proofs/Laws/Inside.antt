@@ -1,15 +1,18 @@
 -- What is read of a certificate lies within its octets, whether it is accepted or not.
 --     between-head, between-wider                             a header that is read; a wider stretch
+--     between-spans                                           an element ends no earlier than it starts
 --     between-first, between-after, between-past, between-tag members of an element
 --     certificate-inside                                      the fields
 --     members-inside                                          the members of a list, so also the extensions
 --     first-inside, value-part-inside, key-inside             the first member, the value of an extension, the parts of a key
+--     starts-below                                            no start of an extension is behind the end of the list
 --     value-inside, issuer-inside                             a good value and the issuer's two parts
 -- Assumes nothing.
 use mathlib.Core.Path.{_≡_, refl}
 use mathlib.Core.List.{List}
 use mathlib.Core.Bool.{Bool, true, false, cond, _||_}
 use Prim.Native.Nat.{ℕ, _≤_}
+use native.Mathlib.Nat.{le-trans}
 use native.Mathlib.Omega.{arith}
 use lib.ListN.{length, getD, List·getD-eq-default}
 use lib.Dec.{ltb, eqb}
@@ -29,10 +32,13 @@ use Rattle.certificate.specs.Extensions.{slotOf, extensionOf}
 use Rattle.certificate.specs.Slots.{orElse, startIn, startsOf, valueFrom, goodStart, valuesOf, holderAt, valueAt}
 use Rattle.certificate.specs.Issuer.{keyIdIn, issuerOf}
 use Rattle.certificate.specs.Members.{missing, firstIn, after, past, insideTag}
-use Rattle.certificate.proofs.Laws.Slots.{start-at, value-start, value-past}
+use Rattle.certificate.proofs.Laws.Slots.{start-at, start-past, value-start, value-past}
 
 pub between-wider : (a b c d : ℕ) (h : Head) → a ≤ b → c ≤ d → Between b c h → Between a d h
 between-wider a b c d h l m k = record { starts = omega (arith, k .starts); holds = k .holds; forward = k .forward; ends = omega (arith, k .ends) }
+
+pub between-spans : {from to : ℕ} {h : Head} → Between from to h → h .at ≤ h .end
+between-spans k = le-trans (k .holds) (k .forward)
 
 between-none : (at end : ℕ) → at ≤ end → Between at end (brokenHead at end)
 between-none at end l = record { starts = omega arith; holds = l; forward = omega arith; ends = omega arith }
@@ -239,6 +245,13 @@ holder-inside s at l = go (eqb at 0)
 
 -- of an extension list
 module _ (s : List ℕ) (list : Head) (k : Inside s list) where
+  pub starts-below : (slot : ℕ) → getD (startsOf s (childrenOf s (list .body) (list .end))) slot 0 ≤ list .end
+  starts-below slot = go (ltb slot 11) refl
+    where
+      go : (t : Bool) → ltb slot 11 ≡ t → getD (startsOf s (childrenOf s (list .body) (list .end))) slot 0 ≤ list .end
+      go true e = rw (start-at s (childrenOf s (list .body) (list .end)) slot (ltb-true slot 11 e)) (start-below s slot (members-between s list k))
+      go false e = rw (List·getD-eq-default (startsOf s (childrenOf s (list .body) (list .end))) 0 (start-past s (childrenOf s (list .body) (list .end)) slot (ltb-false slot 11 e))) (omega arith)
+
   value-below : (slot : ℕ) → goodStart s (list .end) slot (startIn s (childrenOf s (list .body) (list .end)) slot) ≤ length s
   value-below slot = good-below s (list .end) slot _ (k .ends) (start-below s slot (members-between s list k))
 

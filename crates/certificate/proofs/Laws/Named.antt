@@ -2,6 +2,7 @@
 --     children-first      the first of elements, and those after it
 --     fit-tag             what fits a type of one alternative has its identifier
 --     named               the fields of a certificate that fits
+--     times-rise          the second of its two times starts after the first
 -- Assumes nothing.
 use mathlib.Core.Path.{_≡_, refl, sym, ap, _∙_}
 use mathlib.Core.List.{List, [], _∷_, _++_}
@@ -13,7 +14,7 @@ use lib.Dec.{ltb, eqb}
 use borrow.Author.Tests.{ltb-true, ltb-false, eq-eqb, ne-eqb, eqb-true}
 use Rattle.der.specs.Header.{headOf, childrenOf, brokenHead}
 use Rattle.der.specs.declared.header.Head.{Head}
-use Rattle.der.proofs.Laws.Header.{head-narrow}
+use Rattle.der.proofs.Laws.Header.{head-narrow, head-start, head-forward}
 use Rattle.der.proofs.Laws.Children.{children-done, children-next}
 use Rattle.der.specs.Contents.{contentsOf}
 use Rattle.times.specs.Reads.{timeOf}
@@ -287,3 +288,11 @@ module _ (s : List ℕ) (e : certificateVerdict s ≡ Fits) where
         before = time-named s _ (times-are .before);
         later = time-named s _ (times-are .later);
       }
+
+  pub times-rise : certificateOf s .«not_before» .at < certificateOf s .«not_after» .at
+  times-rise =
+      let period = named .fields .period in
+      let a = children-first s (period .body) (period .end) _ _ (named .times) in
+      let b = children-first s (headOf s (period .body) (period .end) .end) (period .end) _ _ (a .rest) in
+      let f = head-forward s (period .body) (period .end) (a .some) .0 in
+      rw (← a .is, ← b .is, head-start s (period .body) (period .end), head-start s (headOf s (period .body) (period .end) .end) (period .end)) f

@@ -2,7 +2,7 @@
 --     by-slot-at, by-slot-is                 the number of a slot; a list of 11 numbers, each as it should be
 --     slot-below                             a slot is below 11
 --     filled-none, filled-next, filled-all   the starts of first extensions, filled in one extension after the other
---     start-at                               the start of the first extension in one slot
+--     start-at, start-past                   the start of the first extension in one slot, and past the slots
 --     valued-none, valued-next, valued-all   numbers filled in slot by slot
 --     value-start, value-past                the number of a slot, and past the slots
 --     good-none, good-some                   the start of a value, by its tests
@@ -121,6 +121,10 @@ filled-all s all starts i end h f =
 pub start-at : (s : List ℕ) (hs : List Head) (slot : ℕ) → slot < 11 → getD (startsOf s hs) slot 0 ≡ startIn s hs slot
 unfolding startsOf
 start-at s hs slot h = by-slot-at (startIn s hs) slot h
+
+pub start-past : (s : List ℕ) (hs : List Head) (slot : ℕ) → 11 ≤ slot → length (startsOf s hs) ≤ slot
+unfolding startsOf
+start-past s hs slot h = rw (by-slot-long (startIn s hs)) h
 
 -- ---- slot after slot
 

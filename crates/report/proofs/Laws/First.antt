@@ -3,6 +3,7 @@
 --     first-found, first-passed, first-done      of the elements of a stretch, one by one
 --     first-here, first-later      of two lists: in the one, or else in the other
 --     none-by-first                there is none if the first is empty
+--     first-inside                 it lies where the items do, or at the end of the list
 --     one-by-first                 an entry at the name if there is no first X, and at each X behind it
 --     each-all                     each item is at place 0 or behind it
 -- Assumes nothing.
@@ -17,7 +18,7 @@ use lib.Dec.{leb}
 use borrow.Author.Tests.{le-leb, lt-leb}
 use Rattle.report.specs.Entries.{entryAt, entryIf, noted}
 use Rattle.report.specs.Forms.{filter, each, further, one, firstOf, isEmpty, isBehind, noneOf}
-use Rattle.report.specs.Order.{In, Apart}
+use Rattle.report.specs.Order.{In, Apart, Between}
 use Rattle.report.specs.Order.Apart.{no-items, more-items}
 use Rattle.der.specs.Header.{brokenHead, headOf, childrenOf}
 use Rattle.der.specs.declared.header.Head.{Head}
@@ -76,6 +77,15 @@ module _ (isX : Head → Bool) (end : ℕ) where
       go : (t : Bool) → isEmpty (firstOf isX end hs) ≡ noneOf isX hs → isEmpty (cond t h (firstOf isX end hs)) ≡ (not t && noneOf isX hs)
       go true ih = lt-leb (h .end) (h .at) l
       go false ih = ih
+
+  pub first-inside : (from to : ℕ) (hs : List Head) → end ≤ to → Between from to hs → (firstOf isX end hs .at ≤ firstOf isX end hs .end) × (firstOf isX end hs .end ≤ to)
+  unfolding firstOf
+  first-inside from to [] l f = (le-refl end, l)
+  first-inside from to (h ∷ hs) l f = go (isX h) (first-inside from to hs l (λ g m. f g (List·Memᴰ·tail m)))
+    where
+      go : (t : Bool) → (firstOf isX end hs .at ≤ firstOf isX end hs .end) × (firstOf isX end hs .end ≤ to) → (cond t h (firstOf isX end hs) .at ≤ cond t h (firstOf isX end hs) .end) × (cond t h (firstOf isX end hs) .end ≤ to)
+      go true r = let b = f h (List·Memᴰ·head refl) in (omega arith, b .2)
+      go false r = r
 
   module _ {gs : List Head} (mid : ℕ) (hs : List Head) (item : Head) (a : Apart gs) (e : item ≡ firstOf isX mid gs) where
     pub first-here : item .at < item .end → firstOf isX end (gs ++ hs) ≡ item

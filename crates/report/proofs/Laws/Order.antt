@@ -1,6 +1,8 @@
 -- The order of a report, and the bounds of its places.
 --     none-ordered, join-ordered, only-ordered       no entries; those of lower rules, and then others; under a condition
+--     wider-ordered                                  as entries of more rules
 --     noted-ordered, each-ordered, one-ordered       the entries of one rule
+--     twice-ordered                                  a rule that judges two elements, the one before the other
 --     none-inside, join-inside, only-inside, noted-inside, each-inside, one-inside      the same of bounds
 --     children-apart, children-between               the elements of a stretch, as items
 --     apart-join, between-join, between-wider        items, and then others
@@ -59,6 +61,12 @@ join-ordered {from} {mid} {to} {es} {fs} p q =
 
     below : (e f : Entry) → In e es → In f fs → e .rule < f .rule
     below e f m n = let r = p .rules e m in let s = q .rules f n in omega arith
+
+pub wider-ordered : {from to less more : ℕ} {es : List Entry} → less ≤ from → to ≤ more → Ordered from to es → Ordered less more es
+wider-ordered {from} {to} {less} {more} {es} a b p = record { span = le-trans a (le-trans (p .span) b); rules = wide; rising = p .rising }
+  where
+    wide : (e : Entry) → In e es → (less ≤ e .rule) × (e .rule < more)
+    wide e m = let r = p .rules e m in (omega arith, omega arith)
 
 pub only-ordered : {from to : ℕ} {es : List Entry} (judged : Bool) → Ordered from to es → Ordered from to (onlyIf judged es)
 only-ordered true p = p
@@ -162,6 +170,20 @@ module _ (rule to : ℕ) (l : rule < to) where
   unfolding entryIf
   noted-ordered true h = of-rule rule to l (λ e m. ruled rule h e (List·Memᴰ·eq-of-singleton m)) (more-entries (λ f m. absurd (List·Memᴰ·not-nil m)) no-entries)
   noted-ordered false h = none-ordered rule to (omega arith)
+
+  pub twice-ordered : (a b : Bool) (h g : Head) → h .at < g .at → Ordered rule to (noted rule a h ++ noted rule b g)
+  twice-ordered a b h g k =
+      record {
+        span = omega arith;
+        rules = λ e m. ⊎-elim (noted-ordered a h .rules e) (noted-ordered b g .rules e) (List·Memᴰ·append-cases (noted rule a h) m);
+        rising = rising-join after (noted-ordered a h .rising) (noted-ordered b g .rising);
+      }
+    where
+      after : (e f : Entry) → In e (noted rule a h) → In f (noted rule b g) → Before e f
+      after e f m n =
+          let p = noted-in rule a h e .0 m .1 in
+          let q = noted-in rule b g f .0 n .1 in
+          rw (p, q) (inr (refl, k))
 
   pub each-ordered : {hs : List Head} (bad : Head → Bool) → Apart hs → Ordered rule to (each rule bad hs)
   unfolding each

@@ -1,6 +1,7 @@
 -- The two passes: one that counts, over no room, and one that writes.
 --     pass-short         what the first pass shows where its count does not fit the room
 --     pass-written       what both show where it does
+--     pass-none          what the first shows where it counts nothing: there is nothing to write
 --     filled-short, filled-written      the room at the end
 --     entry-back, read-back     the entries that are written, read back
 -- Assumes nothing.
@@ -18,6 +19,7 @@ use Rattle.report.specs.declared.sink.Entry.{Entry}
 use Rattle.report.specs.Entries.{width, octetsOf, encode}
 use Rattle.report.specs.Putting.{cap, tick, putOne, counted, putAll, Put}
 use Rattle.report.specs.Answers.{fits, filled, Short, Written}
+use Rattle.report.proofs.Laws.Putting.{nothing}
 
 -- ---- the count
 
@@ -40,6 +42,16 @@ counted-right es l k h = let c : counted es 0 ≡ min cap (0 + length es) = coun
 
 counted-over : (es : List Entry) (l : ℕ) → l < width * counted es 0 → l < width * length es
 counted-over es l h = let c : counted es 0 ≡ min cap (0 + length es) = counted-min es 0 (omega arith) in omega arith
+
+-- nothing is counted only where there is nothing
+no-length : (es : List Entry) → length es ≡ 0 → es ≡ []
+no-length [] h = refl
+no-length (e ∷ es) h = absurd (omega arith)
+
+counted-none : (es : List Entry) → counted es 0 ≤ 0 → es ≡ []
+counted-none es h =
+    let c : counted es 0 ≡ min cap (0 + length es) = counted-min es 0 (omega arith) in
+    no-length es (omega arith)
 
 -- ---- the octets
 
@@ -115,3 +127,9 @@ module _ (es : List Entry) (room : List ℕ) {n : ℕ} {left : List ℕ} {fit : 
         count = c ∙ e;
         bytes = q .bytes ∙ ap (putAll es 0) same-room ∙ all-written es 0 room (omega arith) small ∙ (rw (zero-add (length es)) (sym (filled-written es room enough)));
       }
+
+  pub pass-none : fit ≡ true → length room < 2 ^ 63 → n ≤ 0 → Written es room n (left ++ room)
+  pass-none f small z =
+      let c = p .count in
+      let e : es ≡ [] = counted-none es (omega arith) in
+      pass-written {m = 0} f small (rw e (nothing 0 (left ++ room)))

@@ -1,0 +1,74 @@
+-- What is known of a certificate that is accepted: none of refusals 1 to 6 applies to it.
+--     accepted-fits      it is of RFC 5280's grammar
+--     accepted-short     it has at most 8,192 octets
+-- Assumes nothing.
+use mathlib.Core.Path.{_≡_, refl}
+use mathlib.Core.List.{List}
+use mathlib.Core.Bool.{Bool, true, false, cond}
+use Prim.Native.Nat.{ℕ, _≤_}
+use native.Mathlib.Omega.{arith}
+use lib.Dec.{leb}
+use lib.ListN.{length}
+use borrow.Author.Tests.{leb-true}
+use Rattle.octets.proofs.Laws.Tests.{and-r}
+use Rattle.der.specs.Soundness.{derSoundness}
+use Rattle.der.specs.declared.walk.Soundness.{Soundness}
+use Rattle.der.specs.declared.walk.Soundness.the-variants.{Sound, Unsound, Unordered}
+use Rattle.asn.specs.Answers.{certificateVerdict}
+use Rattle.asn.specs.declared.fitting.Verdict.{Verdict}
+use Rattle.asn.specs.declared.fitting.Verdict.the-variants.{Stranger, Fits, Wrong}
+use Rattle.profiles.specs.Fields.{askedOf}
+use Rattle.profiles.specs.declared.fields.Profile.{Profile}
+use Rattle.profiles.specs.declared.fields.Asked.{Asked}
+use Rattle.profiles.specs.declared.fields.Asked.the-variants.{For, Unknown}
+use Rattle.lint.specs.Judging.{lengthOk, byVerdict, bySoundness, sideJudgement, orElse, bothSides, forProfile, judgementOf}
+use Rattle.lint.specs.declared.refusals.Side.{Side}
+use Rattle.lint.specs.declared.refusals.Side.the-variants.{Certificate, Issuer}
+use Rattle.lint.specs.declared.refusals.Refusal.{Refusal}
+use Rattle.lint.specs.declared.judging.Judgement.{Judgement}
+use Rattle.lint.specs.declared.judging.Judgement.the-variants.{Accepted, Refused}
+
+-- what is refused is not accepted
+refused : (r : Refusal) (p : Profile) → Refused r ≡ Accepted p → ⊥
+refused r p e =
+    let z : _≡_ {A = ℕ} 0 1 = cc e in
+    omega arith
+
+-- a test that refuses if it fails
+passed : (b : Bool) (j : Judgement) (r : Refusal) (p : Profile) → cond b j (Refused r) ≡ Accepted p → (b ≡ true) × (j ≡ Accepted p)
+passed true j r p e = (refl, e)
+passed false j r p e = absurd (refused r p e)
+
+verdict-fits : (q p : Profile) (side : Side) (v : Verdict) → byVerdict q side v ≡ Accepted p → v ≡ Fits
+verdict-fits q p side Fits e = refl
+verdict-fits q p side (Wrong place) e = absurd (refused _ p e)
+verdict-fits q p side Stranger e = absurd (refused _ p e)
+
+sound-fits : (q p : Profile) (side : Side) (d : Soundness) (v : Verdict) → bySoundness q side d v ≡ Accepted p → v ≡ Fits
+sound-fits q p side Sound v e = verdict-fits q p side v e
+sound-fits q p side (Unsound place) v e = absurd (refused _ p e)
+sound-fits q p side (Unordered place) v e = absurd (refused _ p e)
+
+side-fits : (q p : Profile) (side : Side) (s : List ℕ) → sideJudgement q side s ≡ Accepted p → certificateVerdict s ≡ Fits
+unfolding sideJudgement
+side-fits q p side s e = sound-fits q p side (derSoundness s) (certificateVerdict s) e
+
+first-accepts : (a b : Judgement) (p : Profile) → orElse a b ≡ Accepted p → (q : Profile) × (a ≡ Accepted q)
+first-accepts (Refused r) b p e = absurd (refused r p e)
+first-accepts (Accepted q) b p e = (q, refl)
+
+profile-fits : (a : Asked) (p : Profile) (s issuer : List ℕ) → forProfile a s issuer ≡ Accepted p → certificateVerdict s ≡ Fits
+unfolding bothSides
+profile-fits Unknown p s issuer e = absurd (refused _ p e)
+profile-fits (For q) p s issuer e =
+    let f = first-accepts (sideJudgement q Certificate s) (sideJudgement q Issuer issuer) p e in
+    side-fits q (f .0) Certificate s (f .1)
+
+module _ (s issuer : List ℕ) (profile : ℕ) (p : Profile) (e : judgementOf s issuer profile ≡ Accepted p) where
+  pub accepted-fits : certificateVerdict s ≡ Fits
+  unfolding judgementOf
+  accepted-fits = profile-fits (askedOf profile) p s issuer (passed (lengthOk (length issuer)) _ _ p (passed (lengthOk (length s)) _ _ p e .1) .1)
+
+  pub accepted-short : length s ≤ 8192
+  unfolding judgementOf
+  accepted-short = leb-true (length s) 8192 (and-r (leb 1 (length s)) (leb (length s) 8192) (passed (lengthOk (length s)) _ _ p e .0))

@@ -1,0 +1,48 @@
+-- `lint::linting::lint` meets its contract. Assumes nothing.
+use borrow.Author.Needs.{needs}
+use Rattle.lint.specs.Answers.{answerOf, roomOf}
+use Rattle.lint.proofs.linting.lint.Statement.{statement}
+use Rattle.lint.proofs.linting.lint.Tie as tie
+
+judge-requires : tie.Need-judge-requires
+judge-requires c κs = search needs
+
+enum-known-judgement : tie.Need-enum-known-judgement
+enum-known-judgement c = search needs
+
+enum-known-judgement-2 : tie.Need-enum-known-judgement-2
+enum-known-judgement-2 c = search needs
+
+report-on-requires : tie.Need-report-on-requires
+report-on-requires c κs = search needs
+
+returns : tie.Need-returns
+unfolding answerOf roomOf
+returns c =
+    let told = c .before in
+    record { told = rw (← told .before .before .judge .ensures, told .judgement .given .1); bytes = rw (← told .before .before .judge .ensures, told .judgement .given .1) }
+
+same-length : tie.Need-same-length
+same-length c = search needs
+
+returns-2 : tie.Need-returns-2
+unfolding answerOf roomOf
+returns-2 c =
+    let report = c .before .before in
+    let told = report .before .before .before in
+    record {
+      told = rw (← told .before .before .judge .ensures, told .judgement2 .given .1) (report .report-on .ensures .told);
+      bytes = rw (← told .before .before .judge .ensures, told .judgement2 .given .1) (report .report-on .ensures .bytes);
+    }
+
+pub lint-spec : {M : Type 1} → statement M
+lint-spec =
+    tie.close
+    (tie.spec
+    judge-requires
+    enum-known-judgement
+    enum-known-judgement-2
+    report-on-requires
+    returns
+    same-length
+    returns-2)

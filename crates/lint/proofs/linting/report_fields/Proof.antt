@@ -1,0 +1,69 @@
+-- `lint::linting::report_fields` meets its contract. Assumes nothing.
+use borrow.Author.Needs.{needs}
+use Rattle.lint.proofs.Laws.Answers.{reported-short, reported-written, reported-none}
+use Rattle.lint.proofs.linting.report_fields.Statement.{statement}
+use Rattle.lint.proofs.linting.report_fields.Tie as tie
+
+slice-relend-prefix-all-rules : tie.Need-slice-relend-prefix-all-rules
+slice-relend-prefix-all-rules c = search needs
+
+slice-aggregate-all-rules : tie.Need-slice-aggregate-all-rules
+slice-aggregate-all-rules c = search needs
+
+all-rules-requires : tie.Need-all-rules-requires
+all-rules-requires c κs = search needs
+
+has-room-requires : tie.Need-has-room-requires
+has-room-requires c κs = search needs
+
+same-length : tie.Need-same-length
+same-length c = search needs
+
+returns : tie.Need-returns
+returns c =
+    let fit = c .before in
+    reported-short _ _ (fit .before .before .before .all-rules .ensures) (fit .has-room .ensures) (c .if1 .taken)
+
+all-rules-requires-2 : tie.Need-all-rules-requires-2
+all-rules-requires-2 c κs = search needs
+
+same-length-2 : tie.Need-same-length-2
+same-length-2 c = search needs
+
+returns-2 : tie.Need-returns-2
+returns-2 c =
+    let written = c .before .before in
+    let test = written .before .before .before in
+    let fit = test .before in
+    let known = fit .before .before .before .before .before .before .before .before .before in
+    let a = known .before .args in
+    let given = known .slice-known .given in
+    reported-written _ (a .room .now) (fit .before .before .before .all-rules .ensures) (fit .has-room .ensures) (test .if1 .left) (search (needs, given)) (written .all-rules2 .ensures)
+
+same-length-3 : tie.Need-same-length-3
+same-length-3 c = search needs
+
+returns-3 : tie.Need-returns-3
+returns-3 c =
+    let test = c .before in
+    let fit = test .before in
+    let known = fit .before .before .before .before .before .before .before .before .before in
+    let a = known .before .args in
+    let given = known .slice-known .given in
+    reported-none _ (a .room .now) (fit .before .before .before .all-rules .ensures) (fit .has-room .ensures) (test .if1 .left) (search (needs, given)) (c .if2 .left)
+
+pub report-fields-spec : {M : Type 1} → statement M
+report-fields-spec =
+    tie.close
+    (tie.spec
+    slice-relend-prefix-all-rules
+    slice-aggregate-all-rules
+    all-rules-requires
+    has-room-requires
+    same-length
+    returns
+    all-rules-requires-2
+    same-length-2
+    returns-2
+    same-length-3
+    returns-3)
