@@ -4,13 +4,13 @@
 
 use std::collections::BTreeSet;
 
-use comparison::amount::cases;
+use comparison::amount::{cases, say};
 use comparison::calendar::{Fields, Moment, DAY};
 use comparison::calls::{Call, Given, Linter, Outcome};
 use comparison::certificate::{Certificate, Extension};
-use comparison::correct::{correct, plain, set_extension, shortest, shortest_with_every_field, Pair};
+use comparison::correct::{correct, plain, set_extension, shortest, shortest_with_every_field, Case, Pair};
 use comparison::element::{tag, Element, Part};
-use comparison::faults::{catalogue, Fault};
+use comparison::faults::{catalogue, densest, mix, Fault};
 use comparison::general_names::{dns, general_names, uri};
 use comparison::hex;
 use comparison::holding::{octets_needed, AMPLE_ROOM};
@@ -75,28 +75,13 @@ fn every_fault_is_judged_alike_under_every_profile() {
     assert!(given.calls() == 0 || given.rules.keys().copied().eq(every), "every rule was broken");
 }
 
-/// A correct certificate with some faults, whether they touch the same thing or not.
-fn heap(profile: u8, faults: &[Fault], random: &mut Random) -> Pair {
-    let mut pair = correct(profile, random);
-    let mut touched = Vec::new();
-    for _ in 0..random.between(2, 20) {
-        let fault = random.choose(faults);
-        // A fault finds what it changes as long as no other has taken that away.
-        if fault.exists_in(profile) && !fault.touches.iter().any(|aspect| touched.contains(aspect)) {
-            fault.apply(&mut pair, random);
-            touched.extend(fault.touches.clone());
-        }
-    }
-    pair
-}
-
 #[test]
 fn mixed_faults_are_judged_alike_under_every_profile() {
     let mut linter = Linter::find();
     let mut random = Random::for_purpose("mixed faults under every profile");
     let faults = catalogue();
     for _ in 0..cases(6_000) / 3 {
-        let case = heap(*random.choose(ALL), &faults, &mut random).encode();
+        let case = mix(*random.choose(ALL), &faults, &mut random).encode();
         compare(&mut linter, "mixed faults", ALL, (&case.certificate, &case.issuer), &mut random);
     }
     let given = linter.finish("certificates with mixed faults, under every profile");
@@ -356,11 +341,9 @@ fn other_outside_structures_are_refused_alike() {
 
 // Refusals
 
-/// The certificate with a signature that makes it exactly this long.
+/// The octets of the certificate after it was made exactly this long.
 fn of_length(mut certificate: Certificate, length: usize) -> Vec<u8> {
-    certificate.signature = Element::bit_string(0, &[0; 5000]);
-    let missing = length - certificate.element().octets().len();
-    certificate.signature = Element::bit_string(0, &vec![0; 5000 + missing]);
+    certificate.lengthen_to(length);
     certificate.element().octets()
 }
 
@@ -446,7 +429,10 @@ fn a_frame_that_makes_no_call_is_told() {
 
 // Rooms
 
-fn hold_rooms(linter: &mut Linter, what: &str, case: &comparison::correct::Case) {
+/// About so many rooms are tried for each report.
+const ROOMS: usize = 23;
+
+fn hold_rooms(linter: &mut Linter, what: &str, case: &Case) {
     let call = Call::new(case.profile, &case.certificate, &case.issuer, AMPLE_ROOM);
     let needed = octets_needed(&call.reference());
     let around = needed.saturating_sub(7)..needed + 8;
@@ -461,8 +447,8 @@ fn rooms_of_every_length_around_the_report_are_kept_alike() {
     let mut linter = Linter::find();
     let mut random = Random::for_purpose("rooms for two linters");
     let faults = catalogue();
-    for turn in 0..cases(300) {
-        let case = heap(ALL[turn % 3], &faults, &mut random).encode();
+    for turn in 0..cases(7_000) / ROOMS {
+        let case = mix(ALL[turn % 3], &faults, &mut random).encode();
         hold_rooms(&mut linter, "a report", &case);
         if turn % 4 == 0 {
             linter
@@ -477,17 +463,6 @@ fn rooms_of_every_length_around_the_report_are_kept_alike() {
     }
     let given = linter.finish("rooms of every length around the report");
     hold_given(&given, &["no finding", "findings", "refused 7 side 0"]);
-}
-
-/// As many findings as fit: two entries for three octets.
-fn densest(profile: u8) -> Pair {
-    let mut pair = plain(profile);
-    set_extension(&mut pair, 7, general_names(vec![dns("www.agency.example")]));
-    let bare = pair.encode().certificate.len();
-    for _ in 0..(8192 - bare - 20) / 3 {
-        pair.extension(7).value().push(dns("_"));
-    }
-    pair
 }
 
 // Issuers
@@ -572,28 +547,32 @@ fn issuers_with_every_kind_of_key_identifier_are_taken_alike() {
 #[test]
 fn issuers_that_agree_in_name_and_key_identifier_give_the_same_answer() {
     let linter = Linter::find();
+    if !linter.is_there() {
+        return;
+    }
     let mut random = Random::for_purpose("issuers that agree");
     let faults = catalogue();
-    let mut calls = Vec::new();
-    for _ in 0..cases(1_500) {
-        let profile = *random.choose(ALL);
-        let pair = heap(profile, &faults, &mut random);
-        let case = pair.encode();
-        let other = other_issuer(&pair.issuer, &mut random).element().octets();
-        assert_ne!(case.issuer, other, "the issuers differ");
-        let first = call(profile, &case.certificate, &case.issuer, &mut random);
-        calls.push([first.clone(), Call { issuer: other, ..first }]);
-    }
-    for pair in calls.chunks(500) {
-        let outcomes = linter.outcomes(&pair.iter().flatten().collect::<Vec<_>>());
-        for (calls, outcomes) in pair.iter().zip(outcomes.chunks_exact(2)) {
+    let rounds = cases(1_500) / 300;
+    for _ in 0..rounds {
+        let pairs: Vec<[Call; 2]> = (0..300).map(|_| calls_that_agree(&faults, &mut random)).collect();
+        let outcomes = linter.outcomes(&pairs.iter().flatten().collect::<Vec<_>>());
+        for (calls, outcomes) in pairs.iter().zip(outcomes.chunks_exact(2)) {
             assert_eq!(outcomes[0], outcomes[1], "{:?}", calls[0]);
             assert_eq!(outcomes[1], Outcome::of(&calls[1].reference(), calls[1].room));
         }
     }
-    if linter.is_there() {
-        comparison::amount::say("pairs of issuers that agree in what counts: the same answer", calls.len());
-    }
+    say("pairs of issuers that agree in what counts: the same answer", 300 * rounds);
+}
+
+/// Two calls that differ in the issuer alone, and there not in what counts.
+fn calls_that_agree(faults: &[Fault], random: &mut Random) -> [Call; 2] {
+    let profile = *random.choose(ALL);
+    let pair = mix(profile, faults, random);
+    let case = pair.encode();
+    let issuer = other_issuer(&pair.issuer, random).element().octets();
+    assert_ne!(case.issuer, issuer, "the issuers differ");
+    let first = call(profile, &case.certificate, &case.issuer, random);
+    [first.clone(), Call { issuer, ..first }]
 }
 
 /// An issuer with the subject name and the key identifier of this one, and all else changed.

@@ -6,8 +6,7 @@ use comparison::amount::cases;
 use comparison::correct::{correct, plain, refusal, Case};
 use comparison::deck::blocks_of;
 use comparison::element::Element;
-use comparison::faults::catalogue;
-use comparison::general_names::dns;
+use comparison::faults::{catalogue, densest};
 use comparison::hex;
 use comparison::holding::{input_of, Comparison};
 use comparison::malformed::{malformed, with_a_broken_time, with_every_field};
@@ -222,10 +221,7 @@ fn an_entry_is_three_pairs_of_octets_high_first() {
 fn of_length(side: u8, length: usize) -> Case {
     let mut pair = plain(1);
     let certificate = if side == 1 { &mut pair.certificate } else { &mut pair.issuer };
-    certificate.signature = Element::bit_string(0, &[0; 5000]);
-    let missing = length - certificate.element().octets().len();
-    certificate.signature = Element::bit_string(0, &vec![0; 5000 + missing]);
-    assert_eq!(certificate.element().octets().len(), length);
+    certificate.lengthen_to(length);
     pair.encode()
 }
 
@@ -243,13 +239,7 @@ fn certificates_of_8192_octets_are_judged_and_longer_ones_refused() {
 #[test]
 fn the_densest_report_is_whole() {
     let mut comparison = Comparison::of("certificates with as many findings as fit");
-    let mut pair = plain(1);
-    let bare = pair.encode().certificate.len();
-    // Two entries for three octets: one label, and an underscore in it.
-    for _ in 0..(8192 - bare - 20) / 3 {
-        pair.extension(7).value().push(dns("_").breaking(413).breaking(414));
-    }
-    let case = pair.encode();
+    let case = densest(1).encode();
     assert!((8000..=8192).contains(&case.certificate.len()), "{} octets", case.certificate.len());
     let Answer::Report(entries) = &case.expected else { panic!("it is a report") };
     assert!(entries.len() > 4500, "{} entries", entries.len());

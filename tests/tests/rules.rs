@@ -4,10 +4,10 @@ use std::collections::BTreeMap;
 
 use comparison::amount::cases;
 use comparison::bad_values::{bad_values, edge_values, nested_other_name};
-use comparison::correct::{correct, plain, plain_value, set_extension, Pair};
+use comparison::correct::{correct, plain, plain_value, set_extension};
 use comparison::faults::key::every_bad_rsa_bits;
 use comparison::faults::values::malformed_hosts;
-use comparison::faults::{catalogue, why_never_alone, Fault};
+use comparison::faults::{catalogue, mix, why_never_alone};
 use comparison::general_names::{dns, named_bits};
 use comparison::holding::{rules_of, Comparison};
 use comparison::profile::{existing_rules, is_server, standing, ALL, SLOTS};
@@ -269,18 +269,4 @@ fn independent_faults_add_up() {
         comparison.hold_case("several faults", &case);
     }
     comparison.finish();
-}
-
-/// A correct certificate with some faults, no two of which touch the same thing.
-fn mix(profile: u8, faults: &[Fault], random: &mut Random) -> Pair {
-    let mut pair = correct(profile, random);
-    let mut chosen: Vec<&Fault> = Vec::new();
-    for _ in 0..random.between(2, 14) {
-        let fault = random.choose(faults);
-        if fault.exists_in(profile) && chosen.iter().all(|other| fault.is_independent_of(other)) {
-            fault.apply(&mut pair, random);
-            chosen.push(fault);
-        }
-    }
-    pair
 }
