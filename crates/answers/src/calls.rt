@@ -1,22 +1,7 @@
 // Calls of the linter.
-use crate::lines::put_number;
-use crate::lines::put_text;
 use crate::lines::say;
-use crate::lines::write;
+use crate::lines::say_refusal;
 use lint::Answer;
-use lint::Refusal;
-
-fn say_refusal(r: Refusal) {
-    let mut line = [0u8; 80];
-    let a = put_text(&mut line, 0, b"refused ");
-    let b = put_number(&mut line, a, lint::number_of(r));
-    let c = put_text(&mut line, b, b" side ");
-    let d = put_number(&mut line, c, lint::side_of(r));
-    let e = put_text(&mut line, d, b" at ");
-    let f = put_number(&mut line, e, lint::place_of(r));
-    let g = put_text(&mut line, f, b"\n");
-    write(&line, g);
-}
 
 // Octets that differ from their neighbours and from those 256 places on, so that a changed one shows.
 fn fill(room: &mut [u8]) {
@@ -32,7 +17,7 @@ fn call(certificate: &[u8], issuer: &[u8], profile: u8, room: &mut [u8]) {
     let answer = lint::lint(certificate, issuer, profile, room);
     match answer {
         Answer::Report(count) => say(b"findings ", count),
-        Answer::Refused(r) => say_refusal(r),
+        Answer::Refused(r) => say_refusal(lint::number_of(r), lint::side_of(r), lint::place_of(r)),
     }
     io::write_all(1, room);
 }
