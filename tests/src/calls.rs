@@ -287,13 +287,21 @@ impl Linter {
         String::from_utf8_lossy(&program.run(&[], &input)).lines().map(str::to_string).collect()
     }
 
-    /// Says how many calls were compared, and fails if any differed.
-    pub fn finish(mut self, kind: &str) -> Given {
+    /// Asks what waits, and fails if any call differed.
+    pub fn settle(&mut self, kind: &str) {
         if self.is_there() {
             self.ask();
-            say(&format!("{kind}: calls of the proved linter"), self.given.calls() + self.differing);
         }
-        assert!(self.differing == 0, "{kind}: {} calls differ\n{}", self.differing, self.shown.join("\n"));
+        let shown = self.shown.join("\n");
+        assert!(self.differing == 0, "{kind}: {} calls differ\n{shown}", self.differing);
+    }
+
+    /// Says how many calls were compared, and fails if any differed.
+    pub fn finish(mut self, kind: &str) -> Given {
+        self.settle(kind);
+        if self.is_there() {
+            say(&format!("{kind}: calls of the proved linter"), self.given.calls());
+        }
         self.given
     }
 }

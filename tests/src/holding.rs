@@ -66,9 +66,8 @@ impl Comparison {
         linter.hold(what, call, case.expected.clone());
     }
 
-    /// Says how many were compared, and fails if any differed or if there was nothing to compare.
-    pub fn finish(self) -> usize {
-        say(&self.kind, self.compared);
+    /// Fails if any differed or if there was nothing to compare.
+    fn settle(&mut self) {
         assert!(self.compared > 0, "{}: nothing was compared", self.kind);
         assert!(
             self.differing == 0,
@@ -78,6 +77,15 @@ impl Comparison {
             self.compared,
             self.shown.join("\n")
         );
+        if let Some(linter) = &mut self.linter {
+            linter.settle(&self.kind);
+        }
+    }
+
+    /// Says how many were compared, and fails if any differed or if there was nothing to compare.
+    pub fn finish(mut self) -> usize {
+        say(&self.kind, self.compared);
+        self.settle();
         if let Some(linter) = self.linter {
             linter.finish(&self.kind);
         }
@@ -104,11 +112,9 @@ fn room_for(needed: usize, turn: usize) -> usize {
 
 /// Holds both linters to a single case at once.
 pub fn hold_at_once(what: &str, case: &Case) {
-    let answered = lint(&case.certificate, &case.issuer, case.profile, AMPLE_ROOM);
-    assert_eq!(case.expected, answered, "{what} (expected, then answered)\n  {}", input_of(case));
     let mut comparison = Comparison::of(what);
     comparison.hold_case(what, case);
-    comparison.finish();
+    comparison.settle();
 }
 
 pub fn input_of(case: &Case) -> String {
