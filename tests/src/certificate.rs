@@ -219,6 +219,14 @@ impl Certificate {
         self.extensions.retain(|extension| extension.identifier != identifier);
     }
 
+    /// Takes a signature that makes the certificate exactly this long, which is over 5,000 octets.
+    pub fn lengthen_to(&mut self, length: usize) {
+        self.signature = Element::bit_string(0, &[0; 5000]);
+        let missing = length - self.element().octets().len();
+        self.signature = Element::bit_string(0, &vec![0; 5000 + missing]);
+        assert_eq!(self.element().octets().len(), length);
+    }
+
     pub fn element(&self) -> Element {
         Element::sequence(vec![
             self.tbs(),

@@ -5,7 +5,9 @@ mod fields;
 pub mod key;
 pub mod values;
 
-use crate::correct::Pair;
+use crate::correct::{correct, plain, set_extension, Pair, HOST};
+use crate::general_names::{dns, general_names};
+use crate::profile::is_server;
 use crate::random::Random;
 
 /// What a fault changes or depends on. Faults that share nothing can be put into one certificate.
@@ -99,6 +101,34 @@ impl Catalogue {
             slot,
         });
     }
+}
+
+/// A correct certificate with some faults, no two of which touch the same thing.
+pub fn mix(profile: u8, faults: &[Fault], random: &mut Random) -> Pair {
+    let mut pair = correct(profile, random);
+    let mut chosen: Vec<&Fault> = Vec::new();
+    for _ in 0..random.between(2, 14) {
+        let fault = random.choose(faults);
+        if fault.exists_in(profile) && chosen.iter().all(|other| fault.is_independent_of(other)) {
+            fault.apply(&mut pair, random);
+            chosen.push(fault);
+        }
+    }
+    pair
+}
+
+/// As many findings as fit into a certificate: at a server two entries for three octets, because
+/// they are one label, and an underscore is in it.
+pub fn densest(profile: u8) -> Pair {
+    let mut pair = plain(profile);
+    set_extension(&mut pair, 7, general_names(vec![dns(HOST)]));
+    let bare = pair.encode().certificate.len();
+    for _ in 0..(8192 - bare - 20) / 3 {
+        let name = dns("_").breaking(414);
+        let name = if is_server(profile) { name.breaking(413) } else { name };
+        pair.extension(7).value().push(name);
+    }
+    pair
 }
 
 /// Why a rule never is a certificate's only finding in a profile; `None` where it can be.

@@ -10,7 +10,8 @@ use crate::profile::existing_rules;
 pub fn answer_held_to_invariants(certificate: &[u8], issuer: &[u8], profile: u8) -> Result<Answer, String> {
     let answer = lint(certificate, issuer, profile, AMPLE_ROOM);
     match &answer {
-        Answer::Refused(refusal) => hold_refusal(refusal, certificate, issuer)?,
+        Answer::Refused(refusal) if refusal.number == 7 => return Err("there was room".to_string()),
+        Answer::Refused(refusal) => hold_place(refusal, certificate, issuer)?,
         Answer::Report(entries) => {
             hold_report(entries, certificate, profile)?;
             hold_rooms(entries, certificate, issuer, profile)?;
@@ -19,15 +20,13 @@ pub fn answer_held_to_invariants(certificate: &[u8], issuer: &[u8], profile: u8)
     Ok(answer)
 }
 
-fn hold_refusal(refusal: &Refusal, certificate: &[u8], issuer: &[u8]) -> Result<(), String> {
+/// "A refusal's place is a start within its side."
+pub fn hold_place(refusal: &Refusal, certificate: &[u8], issuer: &[u8]) -> Result<(), String> {
     let (side, length) = match refusal.side {
         1 => ("certificate", certificate.len()),
         2 => ("issuer", issuer.len()),
-        _ => return Err(format!("{refusal:?} is on no side, and the profile and the room are good")),
+        _ => return Err(format!("{refusal:?} is on no side")),
     };
-    if refusal.number == 7 {
-        return Err("there was room".to_string());
-    }
     // An element needs an octet at least, except where there is none at all.
     if refusal.place < length || refusal.place == 0 {
         Ok(())
@@ -36,7 +35,8 @@ fn hold_refusal(refusal: &Refusal, certificate: &[u8], issuer: &[u8]) -> Result<
     }
 }
 
-fn hold_report(entries: &[Entry], certificate: &[u8], profile: u8) -> Result<(), String> {
+/// Entries rise, are of rules that the profile has, and lie in the certificate.
+pub fn hold_report(entries: &[Entry], certificate: &[u8], profile: u8) -> Result<(), String> {
     for pair in entries.windows(2) {
         if (pair[0].rule, pair[0].start) >= (pair[1].rule, pair[1].start) {
             return Err(format!("{:?} does not come before {:?}", pair[0], pair[1]));

@@ -19,6 +19,7 @@
 //! | `holding`, `invariants`, `shrink` | comparing, and showing what differs |
 //! | `program` | running a program of this repository as a process |
 //! | `answers` | a program that answers frames with lines, held to the lines that are expected |
+//! | `calls` | calls of the proved linter, held to the whole answer that is due |
 //! | `random`, `amount`, `hex` | small helpers |
 //!
 //! `cargo test -- --nocapture` shows how many cases of each kind were compared and the table of
@@ -29,6 +30,7 @@ pub mod amount;
 pub mod answers;
 pub mod bad_values;
 pub mod calendar;
+pub mod calls;
 pub mod certificate;
 pub mod correct;
 pub mod deck;

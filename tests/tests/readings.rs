@@ -595,7 +595,7 @@ fn the_issuer_counts_by_its_subject_and_key_identifier_alone() {
         pair.issuer = other;
         let second = pair.encode();
         assert_ne!(first.issuer, second.issuer);
-        comparison.hold_reference("another issuer", &second);
+        comparison.hold_case("another issuer", &second);
     }
     comparison.finish();
 }

@@ -6,8 +6,7 @@ use comparison::amount::cases;
 use comparison::correct::{correct, plain, refusal, Case};
 use comparison::deck::blocks_of;
 use comparison::element::Element;
-use comparison::faults::catalogue;
-use comparison::general_names::dns;
+use comparison::faults::{catalogue, densest};
 use comparison::hex;
 use comparison::holding::{input_of, Comparison};
 use comparison::malformed::{malformed, with_a_broken_time, with_every_field};
@@ -62,7 +61,7 @@ fn malformed_certificates(met: &mut Met) {
         for (side, certificate) in [(1, pair.certificate), (2, pair.issuer)] {
             for item in malformed(&with_every_field(certificate)) {
                 let case = case_with(*profile, side, &item.tree);
-                comparison.hold_reference(&format!("side {side}, {}", item.what), &case);
+                comparison.hold_case(&format!("side {side}, {}", item.what), &case);
                 *met.entry((item.number, side)).or_default() += 1;
             }
         }
@@ -83,7 +82,7 @@ fn sizes_and_profiles(met: &mut Met) {
             *met.entry((refusal.number, refusal.side)).or_default() += 1;
         }
         let case = Case { profile, certificate: certificate.to_vec(), issuer: issuer.to_vec(), expected };
-        comparison.hold_reference("sizes and profiles", &case);
+        comparison.hold_case("sizes and profiles", &case);
     };
     let (certificate, issuer) = (good.certificate.as_slice(), good.issuer.as_slice());
     hold(&[], issuer, 1, refused(1, 1, 0));
@@ -205,7 +204,7 @@ fn a_broken_time_is_refused_wherever_it_breaks() {
         let side = random.between(1, 2) as u8;
         let pair = plain(profile);
         let tree = with_a_broken_time(if side == 1 { &pair.certificate } else { &pair.issuer }, &mut random);
-        comparison.hold_reference("a spoiled time", &case_with(profile, side, &tree));
+        comparison.hold_case("a spoiled time", &case_with(profile, side, &tree));
     }
     comparison.finish();
 }
@@ -222,10 +221,7 @@ fn an_entry_is_three_pairs_of_octets_high_first() {
 fn of_length(side: u8, length: usize) -> Case {
     let mut pair = plain(1);
     let certificate = if side == 1 { &mut pair.certificate } else { &mut pair.issuer };
-    certificate.signature = Element::bit_string(0, &[0; 5000]);
-    let missing = length - certificate.element().octets().len();
-    certificate.signature = Element::bit_string(0, &vec![0; 5000 + missing]);
-    assert_eq!(certificate.element().octets().len(), length);
+    certificate.lengthen_to(length);
     pair.encode()
 }
 
@@ -233,9 +229,9 @@ fn of_length(side: u8, length: usize) -> Case {
 fn certificates_of_8192_octets_are_judged_and_longer_ones_refused() {
     let mut comparison = Comparison::of("certificates around the most octets");
     for side in [1, 2] {
-        comparison.hold_reference("8,192 octets", &of_length(side, 8192));
+        comparison.hold_case("8,192 octets", &of_length(side, 8192));
         let longer = Case { expected: refused(side, side, 0), ..of_length(side, 8193) };
-        comparison.hold_reference("8,193 octets", &longer);
+        comparison.hold_case("8,193 octets", &longer);
     }
     comparison.finish();
 }
@@ -243,17 +239,11 @@ fn certificates_of_8192_octets_are_judged_and_longer_ones_refused() {
 #[test]
 fn the_densest_report_is_whole() {
     let mut comparison = Comparison::of("certificates with as many findings as fit");
-    let mut pair = plain(1);
-    let bare = pair.encode().certificate.len();
-    // Two entries for three octets: one label, and an underscore in it.
-    for _ in 0..(8192 - bare - 20) / 3 {
-        pair.extension(7).value().push(dns("_").breaking(413).breaking(414));
-    }
-    let case = pair.encode();
+    let case = densest(1).encode();
     assert!((8000..=8192).contains(&case.certificate.len()), "{} octets", case.certificate.len());
     let Answer::Report(entries) = &case.expected else { panic!("it is a report") };
     assert!(entries.len() > 4500, "{} entries", entries.len());
-    comparison.hold_reference("dense", &case);
+    comparison.hold_case("dense", &case);
     let short = lint(&case.certificate, &case.issuer, 1, 6 * entries.len() - 1);
     assert_eq!(short, refused(7, 0, 0));
     comparison.finish();

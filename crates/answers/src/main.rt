@@ -3,30 +3,33 @@
 // `unordered at P` or `departs at P`; kind s, from 1 to 10, asks for the value of the extension that rule 340+s judges,
 // and gets `value` or `no value`; kind 11 asks for sound DER and gets `sound`, `unsound at P` or `unordered at P`. The
 // input ends with its last whole frame.
+//
+// Kind 12 asks for a call of the linter. Its octets are the profile, the room's length in three octets and the
+// certificate's in two, the high one first, the certificate, and as the rest the issuer. The linter gets a room of that
+// length, at most 65,536, whose octet at place i is i modulo 251. The line is `findings N` or `refused R side S at P`,
+// and directly behind it come the room's octets as the linter left them, as many as its length says. A frame that is
+// too short for its own lengths, or asks for more room, gets the line `no call` and nothing behind it.
+mod calls;
+mod lines;
+
 use asn::Verdict;
 use der::Soundness;
-
-fn say(text: &[u8], place: usize) {
-    io::write_all(1, text);
-    io::print_decimal(1, place as u64);
-    io::write_all(1, b"\n");
-}
 
 fn answer_form(found: Verdict) {
     match found {
         Verdict::Fits => {
             io::write_all(1, b"certificate\n");
         }
-        Verdict::Wrong(place) => say(b"departs at ", place),
-        Verdict::Stranger => say(b"departs at ", 0),
+        Verdict::Wrong(place) => lines::say(b"departs at ", place),
+        Verdict::Stranger => lines::say(b"departs at ", 0),
     }
 }
 
 fn answer_certificate(octets: &[u8]) {
     match der::check_der(octets) {
         Soundness::Sound => answer_form(asn::check_certificate(octets)),
-        Soundness::Unsound(place) => say(b"unsound at ", place),
-        Soundness::Unordered(place) => say(b"unordered at ", place),
+        Soundness::Unsound(place) => lines::say(b"unsound at ", place),
+        Soundness::Unordered(place) => lines::say(b"unordered at ", place),
     }
 }
 
@@ -35,8 +38,8 @@ fn answer_encoding(octets: &[u8]) {
         Soundness::Sound => {
             io::write_all(1, b"sound\n");
         }
-        Soundness::Unsound(place) => say(b"unsound at ", place),
-        Soundness::Unordered(place) => say(b"unordered at ", place),
+        Soundness::Unsound(place) => lines::say(b"unsound at ", place),
+        Soundness::Unordered(place) => lines::say(b"unordered at ", place),
     }
 }
 
@@ -49,42 +52,45 @@ fn answer_value(octets: &[u8], slot: usize) {
 }
 
 // Fills the frame from the input, answers it, and says whether it was whole.
-fn answer_frame(kind: u8, frame: &mut [u8]) -> bool {
+fn answer_frame(kind: u8, frame: &mut [u8], room: &mut [u8]) -> bool {
     if io::read_full(0, frame) != frame.len() {
         return false;
     }
     match kind {
         0 => answer_certificate(frame),
         11 => answer_encoding(frame),
+        12 => calls::answer_call(frame, room),
         _ => answer_value(frame, octets::wide(kind)),
     }
     true
 }
 
 // Reads a frame's kind and length, answers the frame, and says whether to go on.
-fn answer_next(room: &mut [u8]) -> bool {
+fn answer_next(space: &mut [u8], room: &mut [u8]) -> bool {
     let mut head = [0u8; 3];
     if io::read_full(0, &mut head) != 3 {
         return false;
     }
     let kind = octets::octet(&head, 0);
     let n = octets::pair(&head, 1);
-    if n <= room.len() {
-        return answer_frame(kind, &mut room[..n]);
+    if n <= space.len() {
+        return answer_frame(kind, &mut space[..n], room);
     }
     false
 }
 
 // A proved loop has to end, and nothing says that its input does: it counts its turns down from a number that no
 // run uses up.
-fn answer_all(room: &mut [u8]) {
+fn answer_all(space: &mut [u8], room: &mut [u8]) {
     let mut turns = u64::MAX;
-    while turns > 0 && answer_next(room) {
+    while turns > 0 && answer_next(space, room) {
         turns -= 1;
     }
 }
 
+// Frames come into `space`, and the linter gets `room`.
 fn main() {
+    let mut space = io::large_buffer();
     let mut room = io::large_buffer();
-    answer_all(&mut room);
+    answer_all(&mut space, &mut room);
 }

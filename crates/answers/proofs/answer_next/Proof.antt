@@ -38,6 +38,9 @@ answer-frame-requires c κs = search needs
 same-length : tie.Need-same-length
 same-length c = search needs
 
+same-length-2 : tie.Need-same-length-2
+same-length-2 c = search needs
+
 returns-2 : tie.Need-returns-2
 returns-2 c = search needs
 
@@ -59,5 +62,6 @@ answer-next-spec =
     slice-aggregate-answer-frame
     answer-frame-requires
     same-length
+    same-length-2
     returns-2
     returns-3)
