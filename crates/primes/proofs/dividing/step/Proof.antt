@@ -1,9 +1,9 @@
--- `primes::residues::step` meets its contract. Assumes nothing.
+-- `primes::dividing::step` meets its contract. Assumes nothing.
 use native.Mathlib.Omega.{arith}
 use borrow.Author.Needs.{needs}
 use Rattle.primes.proofs.Laws.Residues.{step-parts}
-use Rattle.primes.proofs.residues.step.Statement.{statement}
-use Rattle.primes.proofs.residues.step.Tie as tie
+use Rattle.primes.proofs.dividing.step.Statement.{statement}
+use Rattle.primes.proofs.dividing.step.Tie as tie
 
 mul-result : tie.Need-mul-result
 mul-result c = let p = step-parts (c .args .r) (c .args .a) (c .args .b) (omega arith) (c .pre .0) (c .pre .1) in record { fits = omega arith }

@@ -1,4 +1,4 @@
--- `primes::residues::residue` meets its contract. Assumes nothing.
+-- `primes::dividing::residue` meets its contract. Assumes nothing.
 use mathlib.Core.Path.{_≡_, sym, ap, _∙_}
 use Prim.Native.Nat.{ℕ, _+_, _-_, _*_, _%_, _^_}
 use native.Mathlib.Omega.{arith}
@@ -7,8 +7,8 @@ use Rattle.octets.specs.Octets.{octetsFrom}
 use Rattle.octets.specs.Numbers.{numberFrom}
 use Rattle.numbers.specs.Numbers.{number}
 use Rattle.primes.proofs.Laws.Residues.{product, residue-below, start, more, done}
-use Rattle.primes.proofs.residues.residue.Statement.{statement}
-use Rattle.primes.proofs.residues.residue.Tie as tie
+use Rattle.primes.proofs.dividing.residue.Statement.{statement}
+use Rattle.primes.proofs.dividing.residue.Tie as tie
 
 abbrev Inv-loop : tie.InvT-loop
 Inv-loop s body end m a b i₀ r₀ i r = (number s body end % m ≡ numberFrom r (octetsFrom s i (end - i)) % m) × ((end - i) % 4 ≡ 0)
