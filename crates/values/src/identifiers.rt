@@ -1,6 +1,6 @@
 // Rules 401 to 403: both key identifiers, and basic constraints.
-use crate::items::first_item;
-use crate::items::same_contents;
+use crate::members::first_item;
+use crate::members::same_contents;
 use der::Head;
 ghost use mathlib.Core.Path.{_≡_};
 ghost use Rattle.values.specs.Identifiers.{keyIdentifierOf, otherAuthority, notEmpty, notTwenty};

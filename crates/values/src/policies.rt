@@ -1,6 +1,6 @@
 // Rules 409 to 411: certificate policies and their qualifiers.
-use crate::items::identifier_is;
-use crate::items::second_item;
+use crate::members::identifier_is;
+use crate::members::second_item;
 use crate::wanted::Wanted;
 use crate::wanted::any_wanted;
 use der::Head;

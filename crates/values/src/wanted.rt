@@ -1,7 +1,7 @@
 // One search for what rules 407, 409 and 410 want among the items of a value.
-use crate::items::contents_are;
-use crate::items::first_item;
-use crate::items::identifier_is;
+use crate::members::contents_are;
+use crate::members::first_item;
+use crate::members::identifier_is;
 use der::Head;
 ghost use mathlib.Core.Path.{_≡_};
 ghost use Rattle.values.specs.Items.{itemsOf};

@@ -1,9 +1,9 @@
--- `values::items::first_item` meets its contract. Assumes nothing.
+-- `values::members::first_item` meets its contract. Assumes nothing.
 use mathlib.Core.Path.{_∙_}
 use borrow.Author.Needs.{needs}
 use Rattle.values.proofs.Laws.Items.{first-law}
-use Rattle.values.proofs.items.first_item.Statement.{statement}
-use Rattle.values.proofs.items.first_item.Tie as tie
+use Rattle.values.proofs.members.first_item.Statement.{statement}
+use Rattle.values.proofs.members.first_item.Tie as tie
 
 head-at-requires : tie.Need-head-at-requires
 head-at-requires c κs = search needs

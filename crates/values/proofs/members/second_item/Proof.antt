@@ -1,9 +1,9 @@
--- `values::items::second_item` meets its contract. Assumes nothing.
+-- `values::members::second_item` meets its contract. Assumes nothing.
 use mathlib.Core.Path.{_∙_}
 use borrow.Author.Needs.{needs}
 use Rattle.values.proofs.Laws.Items.{second-law}
-use Rattle.values.proofs.items.second_item.Statement.{statement}
-use Rattle.values.proofs.items.second_item.Tie as tie
+use Rattle.values.proofs.members.second_item.Statement.{statement}
+use Rattle.values.proofs.members.second_item.Tie as tie
 
 head-at-requires : tie.Need-head-at-requires
 head-at-requires c κs = search needs

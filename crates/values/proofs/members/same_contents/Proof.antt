@@ -1,7 +1,7 @@
--- `values::items::same_contents` meets its contract. Assumes nothing.
+-- `values::members::same_contents` meets its contract. Assumes nothing.
 use borrow.Author.Needs.{needs}
-use Rattle.values.proofs.items.same_contents.Statement.{statement}
-use Rattle.values.proofs.items.same_contents.Tie as tie
+use Rattle.values.proofs.members.same_contents.Statement.{statement}
+use Rattle.values.proofs.members.same_contents.Tie as tie
 
 minus-requires : tie.Need-minus-requires
 minus-requires c κs = search needs

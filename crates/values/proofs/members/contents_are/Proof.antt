@@ -1,8 +1,8 @@
--- `values::items::contents_are` meets its contract. Assumes nothing.
+-- `values::members::contents_are` meets its contract. Assumes nothing.
 use borrow.Author.Needs.{needs}
 use Rattle.values.specs.Items.{contentsAre}
-use Rattle.values.proofs.items.contents_are.Statement.{statement}
-use Rattle.values.proofs.items.contents_are.Tie as tie
+use Rattle.values.proofs.members.contents_are.Statement.{statement}
+use Rattle.values.proofs.members.contents_are.Tie as tie
 
 minus-requires : tie.Need-minus-requires
 minus-requires c κs = search needs

@@ -1,7 +1,7 @@
--- `values::items::identifier_is` meets its contract. Assumes nothing.
+-- `values::members::identifier_is` meets its contract. Assumes nothing.
 use borrow.Author.Needs.{needs}
-use Rattle.values.proofs.items.identifier_is.Statement.{statement}
-use Rattle.values.proofs.items.identifier_is.Tie as tie
+use Rattle.values.proofs.members.identifier_is.Statement.{statement}
+use Rattle.values.proofs.members.identifier_is.Tie as tie
 
 first-item-requires : tie.Need-first-item-requires
 first-item-requires c κs = search needs
