@@ -15,6 +15,12 @@ use Rattle.times.specs.Reads.{timeOf}
 use Rattle.times.specs.Validity.{dateOf, withinDaysOf}
 use Rattle.times.specs.declared.reading.Reading.{Reading}
 use Rattle.times.specs.declared.reading.Reading.the-variants.{Is, Bad}
+use Rattle.profiles.specs.Fields.{maxDays}
+use Rattle.profiles.specs.declared.fields.Profile.{Profile}
+use Rattle.profiles.specs.declared.fields.Profile.the-variants.{Domain, Organization}
+use Rattle.certificate.specs.declared.key.KeyKind.{KeyKind}
+use Rattle.certificate.specs.declared.key.KeyKind.the-variants.{Rsa, EllipticCurve}
+use Rattle.rules_values.specs.Usage.{allowedUsage}
 use Rattle.values.specs.Usage.{otherUsage}
 use Rattle.values.specs.Policies.{isBelow, federalArc}
 use Rattle.asn.specs.Answers.{certificateVerdict, refusalNumber as formNumber, refusalPlace as formPlace, valueOk}
@@ -28,14 +34,14 @@ pub data Question : Type 0 where
   integer : List ℕ → Question
   -- a UTCTime: which year is it in?
   year : String → Question
-  -- two UTCTimes: is the second at most so many days after the first?
-  within : ℕ → String → String → Question
+  -- two UTCTimes: do they keep 111 in this profile?
+  within : Profile → String → String → Question
   -- a slot of the table of extensions and a value: is it of its type?
   value : ℕ → List ℕ → Question
   -- the contents of a policy's identifier: is it below the arc of rule 409?
   below : List ℕ → Question
-  -- the weight of the bit that is allowed besides digitalSignature and a key usage: does it break 405?
-  usage : ℕ → List ℕ → Question
+  -- a key usage: does it break 405 in this profile with this kind of key?
+  usage : Profile → KeyKind → List ℕ → Question
 
 pub data Answer : Type 0 where
   -- a refusal by number and place; number 0 is none
@@ -65,10 +71,10 @@ answer (encoding s) = refusal (refusalNumber (derSoundness s)) (refusalPlace (de
 answer (form s) = refusal (formNumber (certificateVerdict s)) (formPlace (certificateVerdict s))
 answer (integer s) = number (integerOf (contentsOf s (headOf s 0 (length s))))
 answer (year text) = yearOf (timeOf 23 (ascii text))
-answer (within days a b) = isWithin days (timeOf 23 (ascii a)) (timeOf 23 (ascii b))
+answer (within p a b) = isWithin (maxDays p) (timeOf 23 (ascii a)) (timeOf 23 (ascii b))
 answer (value slot s) = says (valueOk s slot 0 (length s))
 answer (below s) = says (isBelow federalArc s)
-answer (usage allowed s) = says (otherUsage s (headOf s 0 (length s)) allowed)
+answer (usage p kind s) = says (otherUsage s (headOf s 0 (length s)) (allowedUsage p kind))
 
 pub record Example : Type 0 where
   pub paper : ℕ
@@ -81,7 +87,7 @@ P n q a = record { paper = n; asked = q; answered = a }
 abbrev sound : Answer
 sound = refusal 0 0
 
--- P10: "keeps 111 for S" is within 395 days. P11: with RSA keyEncipherment is allowed, of weight 32, and with EC keyAgreement, of weight 8.
+-- P10 and P11 hold for both profiles of S.
 unfoldable pub table : List Example
 table =
     P 1 (encoding (0x30 ∷ 0x00 ∷ [])) sound
@@ -100,10 +106,14 @@ table =
     ∷ P 8 (below (0x60 ∷ 0x86 ∷ 0x48 ∷ 0x01 ∷ 0x65 ∷ 0x03 ∷ 0x02 ∷ 0x01 ∷ 0x03 ∷ 0x0D ∷ [])) (says true)
     ∷ P 9 (year "491231235959Z") (number (pos 2049))
     ∷ P 9 (year "500101000000Z") (number (pos 1950))
-    ∷ P 10 (within 395 "240101000000Z" "250130000000Z") (says true)
-    ∷ P 10 (within 395 "240101000000Z" "250130000001Z") (says false)
+    ∷ P 10 (within Domain "240101000000Z" "250130000000Z") (says true)
+    ∷ P 10 (within Domain "240101000000Z" "250130000001Z") (says false)
+    ∷ P 10 (within Organization "240101000000Z" "250130000000Z") (says true)
+    ∷ P 10 (within Organization "240101000000Z" "250130000001Z") (says false)
     ∷ P 11 (value 4 (0x03 ∷ 0x02 ∷ 0x05 ∷ 0xA0 ∷ [])) (says true)
-    ∷ P 11 (usage 32 (0x03 ∷ 0x02 ∷ 0x05 ∷ 0xA0 ∷ [])) (says false)
-    ∷ P 11 (usage 8 (0x03 ∷ 0x02 ∷ 0x05 ∷ 0xA0 ∷ [])) (says true)
+    ∷ P 11 (usage Domain Rsa (0x03 ∷ 0x02 ∷ 0x05 ∷ 0xA0 ∷ [])) (says false)
+    ∷ P 11 (usage Domain EllipticCurve (0x03 ∷ 0x02 ∷ 0x05 ∷ 0xA0 ∷ [])) (says true)
+    ∷ P 11 (usage Organization Rsa (0x03 ∷ 0x02 ∷ 0x05 ∷ 0xA0 ∷ [])) (says false)
+    ∷ P 11 (usage Organization EllipticCurve (0x03 ∷ 0x02 ∷ 0x05 ∷ 0xA0 ∷ [])) (says true)
     ∷ P 11 (value 4 (0x03 ∷ 0x02 ∷ 0x00 ∷ 0x80 ∷ [])) (says false)
     ∷ []
