@@ -50,13 +50,19 @@ unfoldable pub bothSides : Profile → List ℕ → List ℕ → Judgement
 bothSides p certificate issuer = orElse (sideJudgement p Certificate certificate) (sideJudgement p Issuer issuer)
 
 -- 3 "profile not 1 to 3"
-abbrev pub forProfile : Asked → List ℕ → List ℕ → Judgement
-forProfile Unknown certificate issuer = Refused Refusals.UnknownProfile
-forProfile (For p) certificate issuer = bothSides p certificate issuer
+abbrev pub forProfile : Asked → Judgement
+forProfile Unknown = Refused Refusals.UnknownProfile
+forProfile (For p) = Accepted p
 
--- 1 "certificate has 0 or over 8,192 bytes", 2 "issuer has 0 or over 8,192 bytes", then 3 to 6
+-- 1 "certificate has 0 or over 8,192 bytes", 2 "issuer has 0 or over 8,192 bytes", then 3: of sides of so many octets. The writer gives these too.
+unfoldable pub admissionOf : ℕ → ℕ → ℕ → Judgement
+admissionOf certificate issuer profile =
+    cond (lengthOk certificate) (cond (lengthOk issuer) (forProfile (askedOf profile)) (Refused Refusals.IssuerLength)) (Refused Refusals.CertificateLength)
+
+-- then 4 to 6
+abbrev pub onceAdmitted : Judgement → List ℕ → List ℕ → Judgement
+onceAdmitted (Refused r) certificate issuer = Refused r
+onceAdmitted (Accepted p) certificate issuer = bothSides p certificate issuer
+
 unfoldable pub judgementOf : List ℕ → List ℕ → ℕ → Judgement
-judgementOf certificate issuer profile =
-    cond (lengthOk (length certificate))
-    (cond (lengthOk (length issuer)) (forProfile (askedOf profile) certificate issuer) (Refused Refusals.IssuerLength))
-    (Refused Refusals.CertificateLength)
+judgementOf certificate issuer profile = onceAdmitted (admissionOf (length certificate) (length issuer) profile) certificate issuer

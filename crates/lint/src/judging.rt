@@ -6,7 +6,7 @@ use der::Soundness;
 use profiles::Asked;
 use profiles::Profile;
 ghost use mathlib.Core.Path.{_≡_};
-ghost use Rattle.lint.specs.Judging.{lengthOk, byVerdict, sideJudgement, bothSides, judgementOf};
+ghost use Rattle.lint.specs.Judging.{lengthOk, byVerdict, sideJudgement, bothSides, admissionOf, judgementOf};
 
 // What refusals 1 to 6 leave: a profile to lint for, or a refusal.
 pub enum Judgement {
@@ -54,18 +54,29 @@ fn judge_both(p: Profile, certificate: &[u8], issuer: &[u8]) -> Judgement
     }
 }
 
-pub fn judge(certificate: &[u8], issuer: &[u8], profile: u8) -> Judgement
-    ensures { λ r. ⌜ r ≡ judgementOf (now (certificate .entry)) (now (issuer .entry)) profile ⌝ }
+// Refusals 1, 2 and 3, which the deck's writer gives too: of a certificate and an issuer of so many octets.
+pub fn admit(certificate: usize, issuer: usize, profile: u8) -> Judgement
+    ensures { λ r. ⌜ r ≡ admissionOf certificate issuer profile ⌝ }
 {
-    if !length_ok(certificate.len()) {
+    if !length_ok(certificate) {
         return Judgement::Refused(Refusal::CertificateLength);
     }
-    if !length_ok(issuer.len()) {
+    if !length_ok(issuer) {
         return Judgement::Refused(Refusal::IssuerLength);
     }
     let asked = profiles::profile_of(profile);
     match asked {
         Asked::Unknown => Judgement::Refused(Refusal::UnknownProfile),
-        Asked::For(p) => judge_both(p, certificate, issuer),
+        Asked::For(p) => Judgement::Accepted(p),
+    }
+}
+
+pub fn judge(certificate: &[u8], issuer: &[u8], profile: u8) -> Judgement
+    ensures { λ r. ⌜ r ≡ judgementOf (now (certificate .entry)) (now (issuer .entry)) profile ⌝ }
+{
+    let admission = admit(certificate.len(), issuer.len(), profile);
+    match admission {
+        Judgement::Refused(r) => Judgement::Refused(r),
+        Judgement::Accepted(p) => judge_both(p, certificate, issuer),
     }
 }

@@ -5,6 +5,7 @@ mod refusals;
 mod rules;
 
 pub use judging::Judgement;
+pub use judging::admit;
 pub use judging::judge;
 pub use linting::Answer;
 pub use linting::lint;

@@ -4,3 +4,4 @@ pub mod Octets
 pub mod Numbers
 pub mod Same
 pub mod Places
+pub mod Copying

@@ -1,5 +1,6 @@
 // Octets by their place. Every function answers for every argument: past the end of the list an octet is 0.
 mod comparing;
+mod copying;
 mod places;
 mod reading;
 
@@ -8,6 +9,7 @@ pub use comparing::lower_case;
 pub use comparing::same;
 pub use comparing::same_ignoring_case;
 pub use comparing::same_stretch;
+pub use copying::copy;
 pub use places::Place;
 pub use reading::fits;
 pub use reading::minus;

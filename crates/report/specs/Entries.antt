@@ -1,20 +1,16 @@
 -- "An entry is rule, start, whole length of the element (header included), each two octets, high first" (document 01, "The report").
 use mathlib.Core.List.{List, [], _∷_, _++_}
 use mathlib.Core.Bool.{Bool, true, false}
-use Prim.Native.Nat.{ℕ, zero, suc, _/_, _%_}
+use Prim.Native.Nat.{ℕ, zero, suc}
 use lib.ListN.{drop}
 use Rattle.report.specs.declared.sink.Entry.{Entry}
 use Rattle.octets.specs.Places.{placeFrom}
-use Rattle.octets.specs.Numbers.{pairAt}
+use Rattle.octets.specs.Numbers.{pairAt, pairOf}
 use Rattle.der.specs.declared.header.Head.{Head}
 
 -- the octets of an entry
 abbrev pub width : ℕ
 width = 6
-
--- a number as "two octets, high first"
-abbrev pub pairOf : ℕ → List ℕ
-pairOf n = (n / 256 % 256) ∷ (n % 256) ∷ []
 
 abbrev pub octetsOf : Entry → List ℕ
 octetsOf e = pairOf (e .rule) ++ pairOf (e .place .start) ++ pairOf (e .place .len)

@@ -8,7 +8,8 @@ ghost use Prim.Native.Nat.{_+_, _*_, _≤_};
 ghost use lib.Dec.{leb};
 ghost use lib.ListN.{length};
 ghost use lib.Seq.{sets};
-ghost use Rattle.report.specs.Entries.{width, pairOf, entryIf, noted};
+ghost use Rattle.octets.specs.Numbers.{pairOf};
+ghost use Rattle.report.specs.Entries.{width, entryIf, noted};
 ghost use Rattle.report.specs.Putting.{Put, tick};
 
 // A finding: the rule, and the place of the element that breaks it.

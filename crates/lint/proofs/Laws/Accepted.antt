@@ -17,11 +17,8 @@ use Rattle.der.specs.declared.walk.Soundness.the-variants.{Sound, Unsound, Unor
 use Rattle.asn.specs.Answers.{certificateVerdict}
 use Rattle.asn.specs.declared.fitting.Verdict.{Verdict}
 use Rattle.asn.specs.declared.fitting.Verdict.the-variants.{Stranger, Fits, Wrong}
-use Rattle.profiles.specs.Fields.{askedOf}
 use Rattle.profiles.specs.declared.fields.Profile.{Profile}
-use Rattle.profiles.specs.declared.fields.Asked.{Asked}
-use Rattle.profiles.specs.declared.fields.Asked.the-variants.{For, Unknown}
-use Rattle.lint.specs.Judging.{lengthOk, byVerdict, bySoundness, sideJudgement, orElse, bothSides, forProfile, judgementOf}
+use Rattle.lint.specs.Judging.{lengthOk, byVerdict, bySoundness, sideJudgement, orElse, bothSides, admissionOf, onceAdmitted, judgementOf}
 use Rattle.lint.specs.declared.refusals.Side.{Side}
 use Rattle.lint.specs.declared.refusals.Side.the-variants.{Certificate, Issuer}
 use Rattle.lint.specs.declared.refusals.Refusal.{Refusal}
@@ -57,18 +54,21 @@ first-accepts : (a b : Judgement) (p : Profile) → orElse a b ≡ Accepted p �
 first-accepts (Refused r) b p e = absurd (refused r p e)
 first-accepts (Accepted q) b p e = (q, refl)
 
-profile-fits : (a : Asked) (p : Profile) (s issuer : List ℕ) → forProfile a s issuer ≡ Accepted p → certificateVerdict s ≡ Fits
+-- what is accepted was admitted, and then neither side was refused
+admitted : (a : Judgement) (p : Profile) (s issuer : List ℕ) → onceAdmitted a s issuer ≡ Accepted p → (q : Profile) × (a ≡ Accepted q) × (certificateVerdict s ≡ Fits)
 unfolding bothSides
-profile-fits Unknown p s issuer e = absurd (refused _ p e)
-profile-fits (For q) p s issuer e =
+admitted (Refused r) p s issuer e = absurd (refused r p e)
+admitted (Accepted q) p s issuer e =
     let f = first-accepts (sideJudgement q Certificate s) (sideJudgement q Issuer issuer) p e in
-    side-fits q (f .0) Certificate s (f .1)
+    (q, refl, side-fits q (f .0) Certificate s (f .1))
 
 module _ (s issuer : List ℕ) (profile : ℕ) (p : Profile) (e : judgementOf s issuer profile ≡ Accepted p) where
   pub accepted-fits : certificateVerdict s ≡ Fits
   unfolding judgementOf
-  accepted-fits = profile-fits (askedOf profile) p s issuer (passed (lengthOk (length issuer)) _ _ p (passed (lengthOk (length s)) _ _ p e .1) .1)
+  accepted-fits = admitted (admissionOf (length s) (length issuer) profile) p s issuer e .2
 
   pub accepted-short : length s ≤ 8192
-  unfolding judgementOf
-  accepted-short = leb-true (length s) 8192 (and-r (leb 1 (length s)) (leb (length s) 8192) (passed (lengthOk (length s)) _ _ p e .0))
+  unfolding judgementOf admissionOf
+  accepted-short =
+      let a = admitted (admissionOf (length s) (length issuer) profile) p s issuer e in
+      leb-true (length s) 8192 (and-r (leb 1 (length s)) (leb (length s) 8192) (passed (lengthOk (length s)) _ _ (a .0) (a .1) .0))

@@ -14,13 +14,12 @@ use Rattle.der.specs.Soundness.{derSoundness}
 use Rattle.asn.specs.Answers.{certificateVerdict}
 use Rattle.profiles.specs.Fields.{askedOf}
 use Rattle.profiles.specs.declared.fields.Profile.{Profile}
-use Rattle.profiles.specs.declared.fields.Asked.{Asked}
-use Rattle.profiles.specs.declared.fields.Asked.the-variants.{For, Unknown}
+use Rattle.profiles.specs.declared.fields.Asked.the-variants.{For}
 use Rattle.report.specs.Answers.{fits, filled}
 use Rattle.report.specs.declared.sink.Entry.{Entry}
 use Rattle.report.proofs.Laws.Passes.{filled-short}
 use Rattle.lint.specs.Findings.{findingsFor, findings, knownOf}
-use Rattle.lint.specs.Judging.{lengthOk, bySoundness, sideJudgement, orElse, bothSides, forProfile, judgementOf}
+use Rattle.lint.specs.Judging.{lengthOk, bySoundness, sideJudgement, orElse, bothSides, forProfile, admissionOf, onceAdmitted, judgementOf}
 use Rattle.lint.specs.Answers.{answerTo, answerBy, roomBy, answerOf, roomOf, Answered}
 use Rattle.lint.specs.Statements.{Acceptable}
 use Rattle.lint.specs.declared.refusals.Side.{Side}
@@ -44,7 +43,7 @@ unfolding sideJudgement
 side-accepted p side s a = rw (a .sound, a .fits)
 
 pub accepted : (p : Profile) (certificate issuer : List ℕ) (profile : ℕ) → Acceptable certificate → Acceptable issuer → askedOf profile ≡ For p → judgementOf certificate issuer profile ≡ Judgements.Accepted p
-unfolding judgementOf bothSides
+unfolding judgementOf admissionOf bothSides
 accepted p certificate issuer profile a b e =
     rw (a .sized, b .sized, e, side-accepted p Certificate certificate a, side-accepted p Issuer issuer b)
 
@@ -52,12 +51,12 @@ accepted p certificate issuer profile a b e =
 
 -- refusals 1 to 6 do not tell two acceptable issuers apart
 same-judgement : (certificate i j : List ℕ) (profile : ℕ) → Acceptable i → Acceptable j → judgementOf certificate i profile ≡ judgementOf certificate j profile
-unfolding judgementOf bothSides
-same-judgement certificate i j profile a b = rw (a .sized, b .sized) (go (askedOf profile))
+unfolding judgementOf admissionOf bothSides
+same-judgement certificate i j profile a b = rw (a .sized, b .sized) (go (cond (lengthOk (length certificate)) (forProfile (askedOf profile)) (Judgements.Refused Refusals.CertificateLength)))
   where
-    go : (asked : Asked) → cond (lengthOk (length certificate)) (forProfile asked certificate i) (Judgements.Refused Refusals.CertificateLength) ≡ cond (lengthOk (length certificate)) (forProfile asked certificate j) (Judgements.Refused Refusals.CertificateLength)
-    go Unknown = refl
-    go (For p) = rw (side-accepted p Issuer i a, side-accepted p Issuer j b)
+    go : (admission : Judgement) → onceAdmitted admission certificate i ≡ onceAdmitted admission certificate j
+    go (Judgements.Refused r) = refl
+    go (Judgements.Accepted p) = rw (side-accepted p Issuer i a, side-accepted p Issuer j b)
 
 same-by : (judgement : Judgement) (certificate i j room : List ℕ) → knownOf i ≡ knownOf j → (answerBy judgement certificate i room ≡ answerBy judgement certificate j room) × (roomBy judgement certificate i room ≡ roomBy judgement certificate j room)
 unfolding findings

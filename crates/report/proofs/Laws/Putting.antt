@@ -21,7 +21,8 @@ use lib.ListN.{length, drop, getD, set, drop-of-length-le}
 use lib.Seq.{sets, drop-cons}
 use borrow.Author.Tests.{lt-ltb, le-ltb, le-leb, lt-leb}
 use Rattle.report.specs.declared.sink.Entry.{Entry}
-use Rattle.report.specs.Entries.{width, pairOf, octetsOf, entryIf, noted}
+use Rattle.octets.specs.Numbers.{pairOf}
+use Rattle.report.specs.Entries.{width, octetsOf, entryIf, noted}
 use Rattle.report.specs.Forms.{onlyIf, joined}
 use Rattle.report.specs.Putting.{cap, tick, putOne, counted, putAll, Put}
 use Rattle.octets.specs.Places.{placeFrom}

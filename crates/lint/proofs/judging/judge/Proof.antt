@@ -1,66 +1,40 @@
 -- `lint::judging::judge` meets its contract. Assumes nothing.
-use borrow.Author.Tests.{not-true, not-false}
 use borrow.Author.Needs.{needs}
 use Rattle.lint.specs.Judging.{judgementOf}
 use Rattle.lint.proofs.judging.judge.Statement.{statement}
 use Rattle.lint.proofs.judging.judge.Tie as tie
 
-length-ok-requires : tie.Need-length-ok-requires
-length-ok-requires c κs = search needs
+admit-requires : tie.Need-admit-requires
+admit-requires c κs = search needs
 
-returns : tie.Need-returns
-unfolding judgementOf
-returns c = rw (← c .before .length-ok .ensures, not-true (c .before .length-ok .result) (c .if1 .taken))
+enum-known-admission : tie.Need-enum-known-admission
+enum-known-admission c = search needs
 
-length-ok-requires-2 : tie.Need-length-ok-requires-2
-length-ok-requires-2 c κs = search needs
-
-returns-2 : tie.Need-returns-2
-unfolding judgementOf
-returns-2 c =
-    let first = c .before .before in
-    rw (← first .before .length-ok .ensures, not-false (first .before .length-ok .result) (first .if1 .left), ← c .before .length-ok2 .ensures, not-true (c .before .length-ok2 .result) (c .if2 .taken))
-
-profile-of-requires : tie.Need-profile-of-requires
-profile-of-requires c κs = search needs
-
-enum-told : tie.Need-enum-told
-enum-told c = search needs
-
-enum-known-asked : tie.Need-enum-known-asked
-enum-known-asked c = search needs
+enum-known-admission-2 : tie.Need-enum-known-admission-2
+enum-known-admission-2 c = search needs
 
 judge-both-requires : tie.Need-judge-both-requires
 judge-both-requires c κs = search needs
 
-returns-3 : tie.Need-returns-3
+returns : tie.Need-returns
 unfolding judgementOf
-returns-3 c =
-    let asked = c .before .before in
-    let second = asked .before in
-    let first = second .before .before in
-    rw (← first .before .length-ok .ensures, not-false (first .before .length-ok .result) (first .if1 .left), ← second .before .length-ok2 .ensures, not-false (second .before .length-ok2 .result) (second .if2 .left), ← asked .profile-of .ensures, c .enum-told .given .1)
+returns c =
+    let told = c .before in
+    rw (← told .before .before .admit .ensures, told .admission .given .1)
 
-returns-4 : tie.Need-returns-4
+returns-2 : tie.Need-returns-2
 unfolding judgementOf
-returns-4 c =
-    let asked = c .before .before .before .before in
-    let second = asked .before in
-    let first = second .before .before in
-    rw (← first .before .length-ok .ensures, not-false (first .before .length-ok .result) (first .if1 .left), ← second .before .length-ok2 .ensures, not-false (second .before .length-ok2 .result) (second .if2 .left), ← asked .profile-of .ensures, c .before .before .asked .given .1)
-    (c .judge-both .ensures)
+returns-2 c =
+    let told = c .before .before in
+    rw (← told .before .before .admit .ensures, told .admission2 .given .1) (c .judge-both .ensures)
 
 pub judge-spec : {M : Type 1} → statement M
 judge-spec =
     tie.close
     (tie.spec
-    length-ok-requires
-    returns
-    length-ok-requires-2
-    returns-2
-    profile-of-requires
-    enum-told
-    enum-known-asked
+    admit-requires
+    enum-known-admission
+    enum-known-admission-2
     judge-both-requires
-    returns-3
-    returns-4)
+    returns
+    returns-2)

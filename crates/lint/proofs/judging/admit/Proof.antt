@@ -1,0 +1,61 @@
+-- `lint::judging::admit` meets its contract. Assumes nothing.
+use borrow.Author.Tests.{not-true, not-false}
+use borrow.Author.Needs.{needs}
+use Rattle.lint.specs.Judging.{admissionOf}
+use Rattle.lint.proofs.judging.admit.Statement.{statement}
+use Rattle.lint.proofs.judging.admit.Tie as tie
+
+length-ok-requires : tie.Need-length-ok-requires
+length-ok-requires c κs = search needs
+
+returns : tie.Need-returns
+unfolding admissionOf
+returns c = rw (← c .before .length-ok .ensures, not-true (c .before .length-ok .result) (c .if1 .taken))
+
+length-ok-requires-2 : tie.Need-length-ok-requires-2
+length-ok-requires-2 c κs = search needs
+
+returns-2 : tie.Need-returns-2
+unfolding admissionOf
+returns-2 c =
+    let first = c .before .before in
+    rw (← first .before .length-ok .ensures, not-false (first .before .length-ok .result) (first .if1 .left), ← c .before .length-ok2 .ensures, not-true (c .before .length-ok2 .result) (c .if2 .taken))
+
+profile-of-requires : tie.Need-profile-of-requires
+profile-of-requires c κs = search needs
+
+enum-told : tie.Need-enum-told
+enum-told c = search needs
+
+enum-known-asked : tie.Need-enum-known-asked
+enum-known-asked c = search needs
+
+returns-3 : tie.Need-returns-3
+unfolding admissionOf
+returns-3 c =
+    let asked = c .before .before in
+    let second = asked .before in
+    let first = second .before .before in
+    rw (← first .before .length-ok .ensures, not-false (first .before .length-ok .result) (first .if1 .left), ← second .before .length-ok2 .ensures, not-false (second .before .length-ok2 .result) (second .if2 .left), ← asked .profile-of .ensures, c .enum-told .given .1)
+
+returns-4 : tie.Need-returns-4
+unfolding admissionOf
+returns-4 c =
+    let asked = c .before .before .before in
+    let second = asked .before in
+    let first = second .before .before in
+    rw (← first .before .length-ok .ensures, not-false (first .before .length-ok .result) (first .if1 .left), ← second .before .length-ok2 .ensures, not-false (second .before .length-ok2 .result) (second .if2 .left), ← asked .profile-of .ensures, c .before .asked .given .1)
+
+pub admit-spec : {M : Type 1} → statement M
+admit-spec =
+    tie.close
+    (tie.spec
+    length-ok-requires
+    returns
+    length-ok-requires-2
+    returns-2
+    profile-of-requires
+    enum-told
+    enum-known-asked
+    returns-3
+    returns-4)

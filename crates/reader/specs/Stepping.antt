@@ -1,0 +1,58 @@
+-- One step of the reader, complete: what it says, and what the room holds then. "The reader's caller lends it the linter's room, which it passes on
+-- whole" (document 01, "The deck").
+use mathlib.Core.Bool.{cond}
+use mathlib.Core.List.{List}
+use mathlib.Core.Path.{_≡_}
+use Prim.Native.Nat.{ℕ, _*_}
+use lib.Dec.{ltb}
+use lib.ListN.{length}
+use Rattle.blocks.specs.Block.{numberOf}
+use Rattle.blocks.specs.Record.{profileIn, certificateIn, issuerIn}
+use Rattle.lint.specs.Answers.{answerOf, roomOf}
+use Rattle.reader.specs.Runs.{from, first, starts, recordFrom}
+use Rattle.reader.specs.Events.{Event, record-at, lost-at, eventIf}
+use Rattle.reader.specs.declared.stepping.Record.{Record}
+use Rattle.reader.specs.declared.stepping.Item.{Item}
+use Rattle.reader.specs.declared.stepping.Item.the-variants as Items
+
+-- record `number` with octets p, as the linter answers it in the room
+abbrev pub lintedRecord : ℕ → List ℕ → List ℕ → Record
+lintedRecord number p room =
+    record {
+      number = number;
+      profile = profileIn p;
+      length = length p;
+      answer = answerOf (certificateIn p) (issuerIn p) (profileIn p) room;
+    }
+
+unfoldable pub lintedRoom : List ℕ → List ℕ → List ℕ
+lintedRoom p room = roomOf (certificateIn p) (issuerIn p) (profileIn p) room
+
+-- an event as the reader hands it out, and the room then
+abbrev pub itemOf : List ℕ → Event → Item
+itemOf room (record-at position number p) = Items.Record (lintedRecord number p room)
+itemOf room (lost-at position loss) = Items.Lost loss
+
+abbrev pub roomAfter : List ℕ → Event → List ℕ
+roomAfter room (record-at position number p) = lintedRoom p room
+roomAfter room (lost-at position loss) = room
+
+-- what stands at a position
+abbrev pub eventAt : List ℕ → ℕ → Event
+eventAt deck position = eventIf (starts (from deck position)) position (from deck position)
+
+unfoldable pub itemAt : List ℕ → ℕ → List ℕ → Item
+itemAt deck position room = cond (ltb (512 * position) (length deck)) (itemOf room (eventAt deck position)) Items.End
+
+unfoldable pub roomAt : List ℕ → ℕ → List ℕ → List ℕ
+roomAt deck position room = cond (ltb (512 * position) (length deck)) (roomAfter room (eventAt deck position)) room
+
+-- the whole of it
+pub record Stepped (deck : List ℕ) (position : ℕ) (room : List ℕ) (r : Item) (last : List ℕ) : Type 0 where
+  pub told : r ≡ itemAt deck position room
+  pub bytes : last ≡ roomAt deck position room
+
+-- the same where a record starts
+pub record Linted (deck : List ℕ) (position : ℕ) (room : List ℕ) (r : Record) (last : List ℕ) : Type 0 where
+  pub told : r ≡ lintedRecord (numberOf (first (from deck position))) (recordFrom (from deck position)) room
+  pub bytes : last ≡ lintedRoom (recordFrom (from deck position)) room

@@ -1,0 +1,15 @@
+// The deck's reader: what stands at each block, record by record with the linter's answer, and the counts.
+mod counting;
+mod finding;
+mod stepping;
+
+pub use counting::Tally;
+pub use counting::block_count;
+pub use counting::tally;
+pub use finding::Found;
+pub use finding::Loss;
+pub use finding::blocks_in;
+pub use finding::find;
+pub use stepping::Item;
+pub use stepping::Record;
+pub use stepping::step;

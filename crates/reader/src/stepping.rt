@@ -1,0 +1,69 @@
+// One step of the reader: what stands at a block, a record with the linter's complete answer.
+use crate::finding::Found;
+use crate::finding::Loss;
+use crate::finding::find;
+use lint::Answer;
+ghost use mathlib.Core.Path.{_≡_};
+ghost use mathlib.Core.List.{_++_};
+ghost use Prim.Native.Nat.{_+_, _*_, _≤_};
+ghost use lib.ListN.{length, drop};
+ghost use Rattle.reader.specs.Runs.{from, dataFrom};
+ghost use Rattle.reader.specs.Finding.{foundAt};
+ghost use Rattle.reader.specs.Stepping.{Stepped, Linted};
+
+pub struct Record {
+    pub number: usize,
+    pub profile: u8,
+    pub length: usize,
+    pub answer: Answer,
+}
+
+pub enum Item {
+    Record(Record),
+    Lost(Loss),
+    End,
+}
+
+// The longest record has 33 parts: so many octets hold the data of any.
+const DESK: usize = 16566;
+
+// Copies the data of the k blocks from `position` on to the front of the desk.
+fn gather(deck: &[u8], position: usize, k: usize, desk: &mut [u8])
+    requires { ⌜ (512 * (position + k) ≤ length (now deck)) × (k * 502 ≤ length (now desk)) ⌝ }
+    ensures { λ _. ⌜ now (desk .exit) ≡ dataFrom k (from (now (deck .entry)) position) ++ drop (k * 502) (now (desk .entry)) ⌝ }
+{
+    let mut j = 0;
+    while j < k {
+        octets::copy(deck, 512 * (position + j) + 8, 502, desk, 502 * j);
+        j += 1;
+    }
+}
+
+// The record of that number and length that starts at the block, with the linter's answer.
+fn lint_record(deck: &[u8], position: usize, number: usize, n: usize, room: &mut [u8]) -> Record
+    requires { ⌜ foundAt (now deck) position ≡ Record number n ⌝ }
+    ensures { λ r. ⌜ Linted (now (deck .entry)) position (now (room .entry)) r (now (room .exit)) ⌝ }
+{
+    let mut desk = [0u8; DESK];
+    gather(deck, position, blocks::parts_of(n), &mut desk);
+    let profile = desk[0];
+    let cut = 3 + octets::pair(&desk, 1);
+    let answer = lint::lint(&desk[3..cut], &desk[cut..n], profile, room);
+    Record {
+        number: number,
+        profile: profile,
+        length: n,
+        answer: answer,
+    }
+}
+
+pub fn step(deck: &[u8], position: usize, room: &mut [u8]) -> Item
+    ensures { λ r. ⌜ Stepped (now (deck .entry)) position (now (room .entry)) r (now (room .exit)) ⌝ }
+{
+    let found = find(deck, position);
+    match found {
+        Found::Record(number, n) => Item::Record(lint_record(deck, position, number, n, room)),
+        Found::Lost(loss) => Item::Lost(loss),
+        Found::End => Item::End,
+    }
+}

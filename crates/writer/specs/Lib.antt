@@ -1,0 +1,3 @@
+-- A record cut into blocks, and the writer's complete answer.
+pub mod Cutting
+pub mod Answers
