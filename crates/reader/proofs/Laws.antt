@@ -1,1 +1,3 @@
 -- Laws of the definitions, by file.
+pub mod Steps
+pub mod Places
