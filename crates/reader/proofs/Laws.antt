@@ -1,3 +1,6 @@
 -- Laws of the definitions, by file.
 pub mod Steps
 pub mod Places
+pub mod Gathering
+pub mod Stepping
+pub mod Walking
