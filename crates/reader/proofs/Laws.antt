@@ -1,3 +1,4 @@
 -- Laws of the definitions, by file.
 pub mod Steps
 pub mod Places
+pub mod Starts
