@@ -1,1 +1,4 @@
 -- Laws of the definitions, by file.
+pub mod Cutting
+pub mod Rooms
+pub mod Desk

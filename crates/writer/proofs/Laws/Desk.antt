@@ -1,0 +1,62 @@
+-- The desk: a record laid out at its front, zeros behind it.
+--     laid-out        the head, the certificate and the issuer laid there make the record
+--     desk-blocks     the blocks of what lies on the desk are the record's
+-- Assumes nothing.
+use mathlib.Core.Path.{_≡_, refl, sym, ap, ap₂, _∙_}
+use mathlib.Core.List.{List, [], _∷_, _++_, append-assoc}
+use Prim.Native.Nat.{ℕ, _+_, _*_, _-_, _≤_}
+use native.Mathlib.Omega.{arith}
+use lib.ListN.{length, take, drop, replicate, length-append, length-drop, length-replicate, replicate-append-replicate}
+use lib.Seq.{take-at, take-length, drop-at, drop-drop, drop-append-add}
+use Rattle.octets.specs.Numbers.{pairOf}
+use Rattle.octets.specs.Copying.{copied}
+use Rattle.octets.proofs.Laws.Copying.{copied-paste}
+use Rattle.blocks.specs.Record.{recordOf, parts}
+use Rattle.writer.specs.Cutting.{zeroFilled, blocksFrom, blocksOf}
+use Rattle.writer.proofs.Laws.Cutting.{from-front, filled-length}
+
+-- the whole of s copied to where `rest` begins
+copied-behind : (s front rest : List ℕ) (at : ℕ) → length front ≡ at → length s ≤ length rest
+    → copied s 0 (length s) (front ++ rest) at ≡ (front ++ s) ++ drop (length s) rest
+copied-behind s front rest at e h =
+    let e₁ : at + length s ≡ length front + length s = omega arith in
+    copied-paste s 0 (length s) (front ++ rest) at (omega arith) (simp length-append (omega arith))
+    ∙ ap₂ (λ (a b : List ℕ). (a ++ b) ++ drop (at + length s) (front ++ rest)) (take-at front rest at e) (take-length s)
+    ∙ ap (λ (l : List ℕ). (front ++ s) ++ l) (ap (λ (m : ℕ). drop m (front ++ rest)) e₁ ∙ drop-append-add front rest (length s))
+
+pub laid-out : (profile : ℕ) (certificate issuer desk d₁ d₂ d₃ : List ℕ) → 3 + length certificate + length issuer ≤ length desk
+    → d₁ ≡ (profile ∷ pairOf (length certificate)) ++ drop 3 desk
+    → d₂ ≡ copied certificate 0 (length certificate) d₁ 3
+    → d₃ ≡ copied issuer 0 (length issuer) d₂ (3 + length certificate)
+    → d₃ ≡ recordOf profile certificate issuer ++ drop (3 + length certificate + length issuer) desk
+unfolding recordOf
+laid-out profile certificate issuer desk d₁ d₂ d₃ h e₁ e₂ e₃ =
+    let head : List ℕ = profile ∷ pairOf (length certificate) in
+    let l₂ : d₂ ≡ (head ++ certificate) ++ drop (length certificate) (drop 3 desk) =
+    e₂ ∙ ap (λ (l : List ℕ). copied certificate 0 (length certificate) l 3) e₁
+    ∙ copied-behind certificate head (drop 3 desk) 3 refl (simp length-drop (omega arith)) in
+    e₃ ∙ ap (λ (l : List ℕ). copied issuer 0 (length issuer) l (3 + length certificate)) (l₂ ∙ ap (λ (l : List ℕ). (head ++ certificate) ++ l) (drop-drop (length certificate) 3 desk))
+    ∙ copied-behind issuer (head ++ certificate) (drop (3 + length certificate) desk) (3 + length certificate) (simp length-append (omega arith)) (simp length-drop (omega arith))
+    ∙ ap₂ (λ (a b : List ℕ). a ++ b) (append-assoc head certificate issuer) (drop-drop (length issuer) (3 + length certificate) desk)
+
+-- zeros behind a record, as many as its fill and more
+zeros-behind : (p : List ℕ) (size : ℕ) → parts (length p) * 502 ≤ size
+    → p ++ drop {A = ℕ} (length p) (replicate size 0) ≡ zeroFilled p ++ replicate (size - parts (length p) * 502) 0
+unfolding zeroFilled
+zeros-behind p size h =
+    let fill : ℕ = parts (length p) * 502 - length p in
+    let more : ℕ = size - parts (length p) * 502 in
+    let e : size ≡ length p + (fill + more) = omega arith in
+    let cut : drop {A = ℕ} (length p) (replicate size 0) ≡ replicate fill 0 ++ replicate more 0 =
+    ap (λ (m : ℕ). drop {A = ℕ} (length p) (replicate m 0)) e
+    ∙ ap (λ (l : List ℕ). drop (length p) l) (sym (replicate-append-replicate (length p) (fill + more) 0))
+    ∙ drop-at (replicate (length p) 0) (replicate (fill + more) 0) (length p) (length-replicate (length p) 0)
+    ∙ sym (replicate-append-replicate fill more 0) in
+    ap (λ (l : List ℕ). p ++ l) cut ∙ sym (append-assoc p (replicate fill 0) (replicate more 0))
+
+pub desk-blocks : (number : ℕ) (p : List ℕ) (size : ℕ) → parts (length p) * 502 ≤ size
+    → blocksFrom number (length p) 0 (parts (length p)) (p ++ drop {A = ℕ} (length p) (replicate size 0)) ≡ blocksOf number p
+unfolding blocksOf
+desk-blocks number p size h =
+    ap (λ (l : List ℕ). blocksFrom number (length p) 0 (parts (length p)) l) (zeros-behind p size h)
+    ∙ from-front number (length p) (parts (length p)) 0 (zeroFilled p) (replicate (size - parts (length p) * 502) 0) (omega (arith, filled-length p))
