@@ -2,3 +2,5 @@
 pub mod Cutting
 pub mod Rooms
 pub mod Desk
+pub mod Answers
+pub mod Statements

@@ -1,6 +1,9 @@
 -- The desk: a record laid out at its front, zeros behind it.
 --     laid-out        the head, the certificate and the issuer laid there make the record
 --     desk-blocks     the blocks of what lies on the desk are the record's
+--     desk-holds      so many zeros are at least as many as are asked for
+--     parts-few       a record of admitted lengths has at most 33 parts
+--     record-put      its blocks are in the room
 -- Assumes nothing.
 use mathlib.Core.Path.{_≡_, refl, sym, ap, ap₂, _∙_}
 use mathlib.Core.List.{List, [], _∷_, _++_, append-assoc}
@@ -12,7 +15,8 @@ use Rattle.octets.specs.Numbers.{pairOf}
 use Rattle.octets.specs.Copying.{copied}
 use Rattle.octets.proofs.Laws.Copying.{copied-paste}
 use Rattle.blocks.specs.Record.{recordOf, parts}
-use Rattle.writer.specs.Cutting.{zeroFilled, blocksFrom, blocksOf}
+use Rattle.blocks.proofs.Laws.Record.{record-length}
+use Rattle.writer.specs.Cutting.{zeroFilled, blocksFrom, blocksOf, joined}
 use Rattle.writer.proofs.Laws.Cutting.{from-front, filled-length}
 
 -- the whole of s copied to where `rest` begins
@@ -60,3 +64,24 @@ unfolding blocksOf
 desk-blocks number p size h =
     ap (λ (l : List ℕ). blocksFrom number (length p) 0 (parts (length p)) l) (zeros-behind p size h)
     ∙ from-front number (length p) (parts (length p)) 0 (zeroFilled p) (replicate (size - parts (length p) * 502) 0) (omega (arith, filled-length p))
+
+pub desk-holds : (n size : ℕ) → n ≤ size → n ≤ length {A = ℕ} (replicate size 0)
+desk-holds n size h = rw (length-replicate {A = ℕ} size 0) h
+
+module _ (profile : ℕ) (certificate issuer : List ℕ) (count : ℕ) (all : count ≡ parts (length (recordOf profile certificate issuer))) where
+  pub parts-few : length certificate ≤ 8192 → length issuer ≤ 8192 → count ≤ 33
+  parts-few hc hi = omega (arith, all, record-length profile certificate issuer)
+
+  pub record-put : (number size : ℕ) (desk room last : List ℕ) → count * 502 ≤ size
+      → desk ≡ recordOf profile certificate issuer ++ drop (3 + length certificate + length issuer) (replicate size 0)
+      → last ≡ joined (blocksFrom number (3 + length certificate + length issuer) 0 count desk) ++ drop (512 * count) room
+      → last ≡ joined (blocksOf number (recordOf profile certificate issuer)) ++ drop (512 * count) room
+  record-put number size desk room last h laid put =
+      let p : List ℕ = recordOf profile certificate issuer in
+      let n : 3 + length certificate + length issuer ≡ length p = sym (record-length profile certificate issuer) in
+      let lies : desk ≡ p ++ drop {A = ℕ} (length p) (replicate size 0) = laid ∙ ap (λ (m : ℕ). p ++ drop {A = ℕ} m (replicate size 0)) n in
+      let blocks : blocksFrom number (3 + length certificate + length issuer) 0 count desk ≡ blocksOf number p =
+      ap (λ (l : List ℕ). blocksFrom number (3 + length certificate + length issuer) 0 count l) lies
+      ∙ ap₂ (λ (m k : ℕ). blocksFrom number m 0 k (p ++ drop {A = ℕ} (length p) (replicate size 0))) n all
+      ∙ desk-blocks number p size (omega (arith, all, h)) in
+      put ∙ ap (λ (bs : List (List ℕ)). joined bs ++ drop (512 * count) room) blocks
