@@ -6,10 +6,10 @@
 --     record-put      its blocks are in the room
 -- Assumes nothing.
 use mathlib.Core.Path.{_≡_, refl, sym, ap, ap₂, _∙_}
-use mathlib.Core.List.{List, [], _∷_, _++_, append-assoc}
+use mathlib.Core.List.{List, _∷_, _++_, append-assoc}
 use Prim.Native.Nat.{ℕ, _+_, _*_, _-_, _≤_}
 use native.Mathlib.Omega.{arith}
-use lib.ListN.{length, take, drop, replicate, length-append, length-drop, length-replicate, replicate-append-replicate}
+use lib.ListN.{length, drop, replicate, length-append, length-drop, length-replicate, replicate-append-replicate}
 use lib.Seq.{take-at, take-length, drop-at, drop-drop, drop-append-add}
 use Rattle.octets.specs.Numbers.{pairOf}
 use Rattle.octets.specs.Copying.{copied}
@@ -43,14 +43,10 @@ laid-out profile certificate issuer desk d₁ d₂ d₃ h e₁ e₂ e₃ =
     ∙ copied-behind issuer (head ++ certificate) (drop (3 + length certificate) desk) (3 + length certificate) (simp length-append (omega arith)) (simp length-drop (omega arith))
     ∙ ap₂ (λ (a b : List ℕ). a ++ b) (append-assoc head certificate issuer) (drop-drop (length issuer) (3 + length certificate) desk)
 
--- zeros behind a record, as many as its fill and more
-zeros-behind : (p : List ℕ) (size : ℕ) → parts (length p) * 502 ≤ size
-    → p ++ drop {A = ℕ} (length p) (replicate size 0) ≡ zeroFilled p ++ replicate (size - parts (length p) * 502) 0
-unfolding zeroFilled
-zeros-behind p size h =
-    let fill : ℕ = parts (length p) * 502 - length p in
-    let more : ℕ = size - parts (length p) * 502 in
-    let e : size ≡ length p + (fill + more) = omega arith in
+-- zeros behind a record: those of its fill, and more
+zeros-behind : (p : List ℕ) (fill more size : ℕ) → size ≡ length p + (fill + more)
+    → p ++ drop {A = ℕ} (length p) (replicate size 0) ≡ (p ++ replicate fill 0) ++ replicate more 0
+zeros-behind p fill more size e =
     let cut : drop {A = ℕ} (length p) (replicate size 0) ≡ replicate fill 0 ++ replicate more 0 =
     ap (λ (m : ℕ). drop {A = ℕ} (length p) (replicate m 0)) e
     ∙ ap (λ (l : List ℕ). drop (length p) l) (sym (replicate-append-replicate (length p) (fill + more) 0))
@@ -58,11 +54,16 @@ zeros-behind p size h =
     ∙ sym (replicate-append-replicate fill more 0) in
     ap (λ (l : List ℕ). p ++ l) cut ∙ sym (append-assoc p (replicate fill 0) (replicate more 0))
 
+desk-filled : (p : List ℕ) (size : ℕ) → parts (length p) * 502 ≤ size
+    → p ++ drop {A = ℕ} (length p) (replicate size 0) ≡ zeroFilled p ++ replicate (size - parts (length p) * 502) 0
+unfolding zeroFilled
+desk-filled p size h = zeros-behind p (parts (length p) * 502 - length p) (size - parts (length p) * 502) size (omega arith)
+
 pub desk-blocks : (number : ℕ) (p : List ℕ) (size : ℕ) → parts (length p) * 502 ≤ size
     → blocksFrom number (length p) 0 (parts (length p)) (p ++ drop {A = ℕ} (length p) (replicate size 0)) ≡ blocksOf number p
 unfolding blocksOf
 desk-blocks number p size h =
-    ap (λ (l : List ℕ). blocksFrom number (length p) 0 (parts (length p)) l) (zeros-behind p size h)
+    ap (λ (l : List ℕ). blocksFrom number (length p) 0 (parts (length p)) l) (desk-filled p size h)
     ∙ from-front number (length p) (parts (length p)) 0 (zeroFilled p) (replicate (size - parts (length p) * 502) 0) (omega (arith, filled-length p))
 
 pub desk-holds : (n size : ℕ) → n ≤ size → n ≤ length {A = ℕ} (replicate size 0)

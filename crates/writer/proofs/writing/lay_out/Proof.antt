@@ -1,5 +1,5 @@
 -- `writer::writing::lay_out` meets its contract: three stores, then the certificate and the issuer copied behind them. Assumes nothing.
-use mathlib.Core.Path.{_≡_, sym, _∙_}
+use mathlib.Core.Path.{_∙_}
 use mathlib.Core.List.{_∷_}
 use native.Mathlib.Omega.{arith}
 use lib.ListN.{length, length-set}

@@ -1,6 +1,6 @@
 -- `writer::writing::put_block` meets its contract: the head, the data and the check put make the block. Assumes nothing.
-use borrow.Author.Needs.{needs}
 use Prim.Native.Nat.{_*_}
+use borrow.Author.Needs.{needs}
 use Rattle.writer.proofs.Laws.Rooms.{block-put}
 use Rattle.writer.proofs.writing.put_block.Statement.{statement}
 use Rattle.writer.proofs.writing.put_block.Tie as tie

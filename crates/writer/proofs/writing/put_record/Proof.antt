@@ -1,6 +1,6 @@
 -- `writer::writing::put_record` meets its contract: the record lies at the front of the desk, zeros behind it, and its blocks were put.
 -- Assumes nothing.
-use mathlib.Core.Path.{_≡_, sym, _∙_}
+use mathlib.Core.Path.{sym, _∙_}
 use Prim.Native.Nat.{ℕ, _≤_}
 use native.Mathlib.Omega.{arith}
 use lib.ListN.{length-replicate}
@@ -29,7 +29,7 @@ put-blocks-requires c κs =
     let a = start .args in
     let few : a .count ≤ 33 = parts-few (a .profile) (a .certificate .now) (a .issuer .now) (a .count) (start .pre .2) (start .pre .0) (start .pre .1) in
     let desk = c .before .before .before .lay-out .kept .1 .1 .1 .0 ∙ length-replicate {A = ℕ} 16566 0 in
-    (omega arith, omega (arith, few), omega (arith, few, desk), start .pre .3)
+    (omega arith, omega (arith, few), omega (arith, few, desk), omega arith)
 
 same-length : tie.Need-same-length
 same-length c = c .before .before .put-blocks .kept .1 .1 .1 .1 .0
