@@ -2,3 +2,5 @@
 pub mod Steps
 pub mod Places
 pub mod Starts
+pub mod Counts
+pub mod Exact
