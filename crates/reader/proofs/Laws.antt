@@ -5,3 +5,5 @@ pub mod Starts
 pub mod Gathering
 pub mod Stepping
 pub mod Walking
+pub mod Counts
+pub mod Exact

@@ -1,4 +1,5 @@
 -- Where the blocks of a deck stand in it.
+--     block-total             how many blocks a deck has
 --     from-cons, from-nil     the blocks from a position on: the block there and those after it, or none past the end
 --     first-is, next-block    the first of them; a block further on
 --     block-long              a block that is not at the end has 512 octets
@@ -36,14 +37,17 @@ cut-drop (suc n) (suc i) d h =
     cut-drop n i (drop 512 d) (le-of-suc-le-suc h)
     ∙ ap (λ (b : List ℕ). b ∷ drop (suc i) (cut n (drop 512 d))) (next-block d i)
 
+pub block-total : (d : List ℕ) → length (blocks d) ≡ (length d + 511) / 512
+unfolding blocks
+block-total d = cut-length ((length d + 511) / 512) d
+
 -- the blocks from position i on: the block there and those after it, or none past the end
 pub from-cons : (d : List ℕ) (i : ℕ) → 512 * i < length d → from d i ≡ blockAt d i ∷ from d (suc i)
 unfolding blocks
 from-cons d i h = cut-drop ((length d + 511) / 512) i d (omega arith)
 
 pub from-nil : (d : List ℕ) (i : ℕ) → length d ≤ 512 * i → from d i ≡ []
-unfolding blocks
-from-nil d i h = drop-of-length-le (cut ((length d + 511) / 512) d) {i = i} (omega (arith, cut-length ((length d + 511) / 512) d))
+from-nil d i h = drop-of-length-le (blocks d) {i = i} (omega (arith, block-total d))
 
 pub first-is : (d : List ℕ) (i : ℕ) → 512 * i < length d → first (from d i) ≡ blockAt d i
 first-is d i h = ap first (from-cons d i h)

@@ -1,5 +1,5 @@
 -- Where a record starts, in terms of the deck's octets.
---     block-whole, sound-at                  a sound block has its 512 octets in the deck
+--     block-whole                            a sound block has its 512 octets in the deck
 --     part-by, unsound-no-part               one part, by the tests of its block
 --     parts-next, parts-done, parts-within   the parts of a run from one on; all of them lie in the deck
 --     last-fill                              the fill of a record is that of its last block
@@ -9,7 +9,8 @@
 --     block-inside, block-none               a block is empty exactly past the deck's end
 --     found-by, found-none                   what is found before the deck's end, and past it
 --     found-record, found-lost               the same, where a run starts and where not
---     loss-short, loss-stray, loss-unsound   why a block is lost
+--     loss-short, loss-whole                 why a block is lost
+--     run-within                             a run lies in the deck
 --     Start, start-of                        all that is known where a record is found
 -- Assumes nothing.
 use mathlib.Core.Path.{_≡_, refl, sym, ap, ap₂, _∙_}
@@ -28,9 +29,9 @@ use Rattle.blocks.specs.Tests.{_and_}
 use Rattle.blocks.specs.Block.{sound, numberOf, lengthOf, partOf, isClear, dataOf}
 use Rattle.blocks.specs.Record.{isRecordLength, parts, zeros, certificateLength}
 use Rattle.reader.specs.Runs.{blocks, blockAt, from, isPart, areParts, dataFrom, isWhole, run, first, starts}
-use Rattle.reader.specs.Events.{lossOf}
+use Rattle.reader.specs.Events.{lossIf, lossOf}
 use Rattle.reader.specs.Finding.{foundIf, foundAt}
-use Rattle.reader.specs.declared.finding.Loss.the-variants.{Short, Unsound, Stray}
+use Rattle.reader.specs.declared.finding.Loss.the-variants.{Short}
 use Rattle.reader.specs.declared.finding.Found.{Found}
 use Rattle.reader.specs.declared.finding.Found.the-variants.{Record, Lost, End}
 use Rattle.blocks.proofs.Laws.Logic.{and-same, and-left, and-right, and-passed, and-not-left, not-true, fits, true-or-false, below-or-not}
@@ -45,24 +46,11 @@ block-whole d i s =
     let h = simp (length-take, length-drop) at (sound-length (blockAt d i) s) in
     omega arith
 
-nothing-unsound : sound [] ≡ false
-unfolding sound _and_
-nothing-unsound = refl
-
 -- the block j of those from i on
 later-block : (d : List ℕ) (i j : ℕ) → getD (from d i) j [] ≡ first (from d (i + j))
 later-block d i j =
     let e : i + j ≡ i + j + 0 = omega arith in
     getD-drop i (blocks d) j [] ∙ ap (λ (m : ℕ). getD (blocks d) m []) e ∙ sym (getD-drop (i + j) (blocks d) 0 [])
-
-pub sound-at : (d : List ℕ) (i j : ℕ) → sound (getD (from d i) j []) ≡ true → 512 * (i + j) + 512 ≤ length d
-sound-at d i j s =
-    let at : getD (from d i) j [] ≡ first (from d (i + j)) = later-block d i j in
-    ⊎-elim
-    (λ (h : 512 * (i + j) < length d). block-whole d (i + j) (ap sound (sym (at ∙ first-is d (i + j) h)) ∙ s))
-    (λ (h : length d ≤ 512 * (i + j)).
-    absurd (false≢true (sym (ap sound (at ∙ ap first (from-nil d (i + j) h)) ∙ nothing-unsound) ∙ s)))
-    (below-or-not (512 * (i + j)) (length d))
 
 data-long : (b : List ℕ) → sound b ≡ true → length (dataOf b) ≡ 502
 data-long b s = length-take-le 502 (drop 8 b) (simp length-drop (omega (arith, sound-length b s)))
@@ -224,18 +212,14 @@ block-inside d i h = omega (arith, length-take 512 (drop (512 * i) d), length-dr
 pub block-none : (d : List ℕ) (i : ℕ) → length (blockAt d i) ≡ 0 → length d ≤ 512 * i
 block-none d i h = omega (arith, length-take 512 (drop (512 * i) d), length-drop (512 * i) d)
 
-module _ (b : List ℕ) where
-  pub loss-short : length b < 512 → lossOf b ≡ Short
-  unfolding lossOf
-  loss-short h = rw (lt-ltb (length b) 512 h)
+-- why a block is lost, short or whole
+pub loss-short : (b : List ℕ) → length b < 512 → lossOf b ≡ Short
+unfolding lossOf
+loss-short b h = rw (lt-ltb (length b) 512 h)
 
-  pub loss-stray : 512 ≤ length b → sound b ≡ true → lossOf b ≡ Stray
-  unfolding lossOf
-  loss-stray h s = rw (le-ltb (length b) 512 h, s)
-
-  pub loss-unsound : 512 ≤ length b → sound b ≡ false → lossOf b ≡ Unsound
-  unfolding lossOf
-  loss-unsound h s = rw (le-ltb (length b) 512 h, s)
+pub loss-whole : (b : List ℕ) → 512 ≤ length b → lossOf b ≡ lossIf false (sound b)
+unfolding lossOf
+loss-whole b h = rw (le-ltb (length b) 512 h)
 
 -- all that is known where a record is found
 pub record Start (d : List ℕ) (i number n : ℕ) : Type 0 where
@@ -264,7 +248,7 @@ module _ (d : List ℕ) (i : ℕ) (t : starts (from d i) ≡ true) where
   unfolding starts run
   run-length = fits 3 16387 (lengthOf (first (from d i))) (and-left _ _ (and-right _ _ t))
 
-  run-within : 512 * i < length d → 512 * (i + parts (lengthOf (first (from d i)))) ≤ length d
+  pub run-within : 512 * i < length d → 512 * (i + parts (lengthOf (first (from d i)))) ≤ length d
   unfolding starts run
   run-within h =
       parts-within (numberOf (first (from d i))) (lengthOf (first (from d i))) 0 (parts (lengthOf (first (from d i)))) d i

@@ -1,5 +1,6 @@
 -- `reader::finding::find` meets its contract, by cases: past the end, a record, short, stray, unsound. Assumes nothing.
 use mathlib.Core.Path.{_≡_, sym, ap, ap₂, _∙_}
+use mathlib.Core.Bool.{false}
 use mathlib.Core.List.{List}
 use Prim.Native.Nat.{ℕ, _*_, _≤_, _<_}
 use native.Mathlib.Omega.{arith}
@@ -7,11 +8,11 @@ use lib.ListN.{length}
 use borrow.Author.Needs.{needs}
 use Rattle.blocks.specs.Block.{sound, numberOf, lengthOf}
 use Rattle.reader.specs.Runs.{blockAt}
-use Rattle.reader.specs.Events.{lossOf}
+use Rattle.reader.specs.Events.{lossIf, lossOf}
 use Rattle.reader.specs.Finding.{foundAt}
 use Rattle.reader.specs.declared.finding.Loss.{Loss}
 use Rattle.reader.specs.declared.finding.Found.the-variants.{Record, Lost}
-use Rattle.reader.proofs.Laws.Starts.{found-none, found-record, found-lost, block-inside, block-none, loss-short, loss-stray, loss-unsound}
+use Rattle.reader.proofs.Laws.Starts.{found-none, found-record, found-lost, block-inside, block-none, loss-short, loss-whole}
 use Rattle.reader.proofs.finding.find.Statement.{statement}
 use Rattle.reader.proofs.finding.find.Tie as tie
 
@@ -37,6 +38,14 @@ module _ (c : tie.Else2) where
   lost loss e =
       found-lost (deck seen) (position seen) (inside (c .before .before)) (sym (c .before .is-start .ensures) ∙ c .if2 .left)
       ∙ ap (λ (l : Loss). Lost l) e
+
+-- a whole block is lost by whether it is sound
+whole : (c : tie.After-is-sound) → lossOf (block (seen (c .before .before))) ≡ lossIf false (c .is-sound .result)
+whole c =
+    let s : tie.After-block-at = seen (c .before .before) in
+    loss-whole (block s) (omega (arith, c .before .if3 .left, ap length (s .block-at .ensures)))
+    ∙ ap (λ (b : List ℕ). lossIf false (sound b)) (sym (s .block-at .ensures))
+    ∙ ap (lossIf false) (sym (c .is-sound .ensures))
 
 block-at-requires : tie.Need-block-at-requires
 block-at-requires c κs = search needs
@@ -72,18 +81,10 @@ is-sound-requires : tie.Need-is-sound-requires
 is-sound-requires c κs = search needs
 
 returns-4 : tie.Need-returns-4
-returns-4 c =
-    let s : tie.After-block-at = seen (c .before .before .before) in
-    sym (lost (c .before .before .before) _
-    (loss-stray (block s) (omega (arith, c .before .before .if3 .left, ap length (s .block-at .ensures)))
-    (ap sound (sym (s .block-at .ensures)) ∙ sym (c .before .is-sound .ensures) ∙ c .if4 .taken)))
+returns-4 c = sym (lost (c .before .before .before) _ (whole (c .before) ∙ ap (lossIf false) (c .if4 .taken)))
 
 returns-5 : tie.Need-returns-5
-returns-5 c =
-    let s : tie.After-block-at = seen (c .before .before .before) in
-    sym (lost (c .before .before .before) _
-    (loss-unsound (block s) (omega (arith, c .before .before .if3 .left, ap length (s .block-at .ensures)))
-    (ap sound (sym (s .block-at .ensures)) ∙ sym (c .before .is-sound .ensures) ∙ c .if4 .left)))
+returns-5 c = sym (lost (c .before .before .before) _ (whole (c .before) ∙ ap (lossIf false) (c .if4 .left)))
 
 pub find-spec : {M : Type 1} → statement M
 find-spec =
