@@ -1,0 +1,8 @@
+-- Laws of the definitions, by file.
+pub mod Parts
+pub mod Numbers
+pub mod Identifier
+pub mod Lengths
+pub mod Element
+pub mod Walks
+pub mod Encoding

@@ -1,0 +1,2 @@
+-- Laws of the definitions, and X.690's own examples.
+pub mod Laws
