@@ -6,3 +6,5 @@ pub mod Lengths
 pub mod Element
 pub mod Walks
 pub mod Encoding
+pub mod Reading
+pub mod Writing

@@ -15,6 +15,8 @@ use lib.Dec.{leb}
 use borrow.Author.Tests.{le-leb}
 use Rattle.trees.specs.Trees.{lengthOctets, element, Octets, LengthOk}
 use Rattle.der.specs.Header.{tagOk, lengthOf, lengthOk, headerSize, wholeHead, brokenHead, headIf, headOf}
+use Rattle.der.specs.Contents.{contentsOf}
+use Rattle.der.specs.Order.{octetsOf}
 use Rattle.der.specs.declared.header.Head.{Head}
 use Rattle.der.proofs.Laws.Header.{head-whole}
 use Rattle.octets.specs.Octets.{octetAt, octetsFrom}
@@ -33,7 +35,8 @@ element-longer identifier c = let k = length-append (lengthOctets (length c)) c 
 pub record Reads (s : List ℕ) (at end identifier : ℕ) (c : List ℕ) : Type 0 where
   pub skip : ℕ
   pub head : headOf s at end ≡ wholeHead at identifier skip (length c)
-  pub contents : octetsFrom s (at + skip) (length c) ≡ c
+  pub contents : contentsOf s (wholeHead at identifier skip (length c)) ≡ c
+  pub octets : octetsOf s (wholeHead at identifier skip (length c)) ≡ element identifier c
   pub size : skip + length c ≡ length (element identifier c)
   pub inside : at + (skip + length c) ≤ end
 
@@ -41,25 +44,41 @@ module _ (s : List ℕ) (at end identifier : ℕ) (c rest : List ℕ) (w : end �
   abbrev header : List ℕ
   header = lengthOctets (length c)
 
-  cut : (octetsFrom s at (suc (length header)) ≡ identifier ∷ header) × (octetsFrom s (at + suc (length header)) (end - at - suc (length header)) ≡ c ++ rest)
+  abbrev skips : ℕ
+  skips = suc (length header)
+
+  cut : (octetsFrom s at skips ≡ identifier ∷ header) × (octetsFrom s (at + skips) (end - at - skips) ≡ c ++ rest)
   unfolding element
   cut = part-cut s at (end - at) (identifier ∷ header) (c ++ rest) (e ∙ ap (λ (l : List ℕ). identifier ∷ l) (append-assoc header c rest))
 
-  pub element-reads : Reads s at end identifier c
-  unfolding element octetsFrom headOf
-  element-reads =
-      let n : end - at ≡ suc (length (header ++ c)) + length rest = sym (octets-long s at (end - at)) ∙ (ap length e ∙ length-append (element identifier c) rest) in
-      let k = length-append header c in
+  sized : skips + length c ≡ length (element identifier c)
+  unfolding element
+  sized = let k = length-append header c in omega arith
+
+  within : at + (skips + length c) ≤ end
+  within =
+      let n : end - at ≡ length (element identifier c) + length rest = sym (octets-long s at (end - at)) ∙ (ap length e ∙ length-append (element identifier c) rest) in
+      let m = sized in
+      omega arith
+
+  read-head : headOf s at end ≡ wholeHead at identifier skips (length c)
+  unfolding headOf octetsFrom
+  read-head =
       let len = length-reads s at (length c) few (tail-same _ _ _ _ (cut .0)) in
-      let inside : at + (suc (length header) + length c) ≤ end = omega arith in
+      (λ i. headIf (le-leb end (length s) w i && len .sound i) at end (head-same _ _ _ _ (cut .0) i) (len .skip i) (len .said i))
+      ∙ sym (head-whole true at end identifier skips (length c) (tagOk identifier) (leb (at + (skips + length c)) end) refl refl (λ i. t i && le-leb (at + (skips + length c)) end within i))
+
+  pub element-reads : Reads s at end identifier c
+  element-reads =
+      let m : at + (skips + length c) - (at + skips) ≡ length c = omega arith in
+      let n : at + (skips + length c) - at ≡ length (element identifier c) = omega (arith, sized) in
       record {
-        skip = suc (length header);
-        head =
-            (λ i. headIf (le-leb end (length s) w i && len .sound i) at end (head-same _ _ _ _ (cut .0) i) (len .skip i) (len .said i))
-            ∙ sym (head-whole true at end identifier (suc (length header)) (length c) (tagOk identifier) (leb (at + (suc (length header) + length c)) end) refl refl (λ i. t i && le-leb (at + (suc (length header) + length c)) end inside i));
-        contents = part-cut s (at + suc (length header)) (end - at - suc (length header)) c rest (cut .1) .0;
-        size = omega arith;
-        inside = inside;
+        skip = skips;
+        head = read-head;
+        contents = part-same s (at + skips) (at + skips) (at + (skips + length c) - (at + skips)) (length c) refl m ∙ part-cut s (at + skips) (end - at - skips) c rest (cut .1) .0;
+        octets = part-same s at at (at + (skips + length c) - at) (length (element identifier c)) refl n ∙ part-cut s at (end - at) (element identifier c) rest e .0;
+        size = sized;
+        inside = within;
       }
 
 -- ---- read, then written
@@ -69,37 +88,36 @@ pub record Passed (s : List ℕ) (at end : ℕ) : Type 0 where
   pub tag : tagOk (octetAt s at) ≡ true
   pub length : lengthOk s at ≡ true
 
-module _ (s : List ℕ) (at end : ℕ) where
-  pub head-passed : headOf s at end .sound ≡ true → Passed s at end
-  unfolding headOf
-  head-passed e = go ((leb end (length s) && lengthOk s at) && (tagOk (octetAt s at) && leb (at + (headerSize s at + lengthOf s at)) end)) refl e
-    where
-      here : Bool → Head
-      here b = cond b (wholeHead at (octetAt s at) (headerSize s at) (lengthOf s at)) (brokenHead at end)
+pub head-passed : (s : List ℕ) (at end : ℕ) → headOf s at end .sound ≡ true → Passed s at end
+unfolding headOf
+head-passed s at end e = go ((leb end (length s) && lengthOk s at) && (tagOk (octetAt s at) && leb (at + (headerSize s at + lengthOf s at)) end)) refl e
+  where
+    here : Bool → Head
+    here b = cond b (wholeHead at (octetAt s at) (headerSize s at) (lengthOf s at)) (brokenHead at end)
 
-      go : (b : Bool) → ((leb end (length s) && lengthOk s at) && (tagOk (octetAt s at) && leb (at + (headerSize s at + lengthOf s at)) end)) ≡ b → here b .sound ≡ true → Passed s at end
-      go true f g =
-          let inner = and-r (leb end (length s) && lengthOk s at) (tagOk (octetAt s at) && leb (at + (headerSize s at + lengthOf s at)) end) f in
-          record {
-            head = ap here f;
-            tag = and-l (tagOk (octetAt s at)) (leb (at + (headerSize s at + lengthOf s at)) end) inner;
-            length = and-r (leb end (length s)) (lengthOk s at) (and-l (leb end (length s) && lengthOk s at) (tagOk (octetAt s at) && leb (at + (headerSize s at + lengthOf s at)) end) f);
-          }
-      go false f g = record { head = cc; tag = cc; length = cc }
+    go : (b : Bool) → ((leb end (length s) && lengthOk s at) && (tagOk (octetAt s at) && leb (at + (headerSize s at + lengthOf s at)) end)) ≡ b → here b .sound ≡ true → Passed s at end
+    go true f g =
+        let inner = and-r (leb end (length s) && lengthOk s at) (tagOk (octetAt s at) && leb (at + (headerSize s at + lengthOf s at)) end) f in
+        record {
+          head = ap here f;
+          tag = and-l (tagOk (octetAt s at)) (leb (at + (headerSize s at + lengthOf s at)) end) inner;
+          length = and-r (leb end (length s)) (lengthOk s at) (and-l (leb end (length s) && lengthOk s at) (tagOk (octetAt s at) && leb (at + (headerSize s at + lengthOf s at)) end) f);
+        }
+    go false f g = record { head = cc; tag = cc; length = cc }
 
-  pub element-written : Octets s → lengthOk s at ≡ true → LengthOk (octetsFrom s (at + headerSize s at) (lengthOf s at)) × (element (octetAt s at) (octetsFrom s (at + headerSize s at) (lengthOf s at)) ≡ octetsFrom s at (headerSize s at + lengthOf s at))
-  unfolding element octetsFrom
-  element-written o k =
-      let len = length-written s at o k in
-      let m = octetAt s (at + 1) - 128 in
-      let n : length (octetsFrom s (at + headerSize s at) (lengthOf s at)) ≡ lengthOf s at = octets-long s (at + headerSize s at) (lengthOf s at) in
-      let p : headerSize s at + lengthOf s at ≡ suc (suc m + lengthOf s at) = omega arith in
-      let q : at + headerSize s at ≡ at + 1 + suc m = omega arith in (
-        rw n (len .few),
-        (λ i. octetAt s at ∷ (ap lengthOctets n ∙ len .octets) i ++ octetsFrom s (q i) (lengthOf s at))
-        ∙ (ap (λ (l : List ℕ). octetAt s at ∷ l) (sym (part-join s (at + 1) (suc m) (lengthOf s at)))
-        ∙ part-same s at at (suc (suc m + lengthOf s at)) (headerSize s at + lengthOf s at) refl (sym p)),
-      )
+pub element-written : (s : List ℕ) (at : ℕ) → Octets s → lengthOk s at ≡ true → LengthOk (octetsFrom s (at + headerSize s at) (lengthOf s at)) × (element (octetAt s at) (octetsFrom s (at + headerSize s at) (lengthOf s at)) ≡ octetsFrom s at (headerSize s at + lengthOf s at))
+unfolding element octetsFrom
+element-written s at o k =
+    let len = length-written s at o k in
+    let m = octetAt s (at + 1) - 128 in
+    let n : length (octetsFrom s (at + headerSize s at) (lengthOf s at)) ≡ lengthOf s at = octets-long s (at + headerSize s at) (lengthOf s at) in
+    let p : headerSize s at + lengthOf s at ≡ suc (suc m + lengthOf s at) = omega arith in
+    let q : at + headerSize s at ≡ at + 1 + suc m = omega arith in (
+      rw n (len .few),
+      (λ i. octetAt s at ∷ (ap lengthOctets n ∙ len .octets) i ++ octetsFrom s (q i) (lengthOf s at))
+      ∙ (ap (λ (l : List ℕ). octetAt s at ∷ l) (sym (part-join s (at + 1) (suc m) (lengthOf s at)))
+      ∙ part-same s at at (suc (suc m + lengthOf s at)) (headerSize s at + lengthOf s at) refl (sym p)),
+    )
 
 -- ---- two elements
 

@@ -2,10 +2,10 @@
 --     identifier-octet, identifier-form, identifier-tag     it is an octet, its bit 6 is the form, and its tag reads back
 --     tag-passes                                            a tag that is right passes the test that is made of the octet
 --     form-octet, octet-tag                                 an octet is written for its own form and tag, which is right if the octet passes the test
---     kept, keeps                                           a rule on universal types alone, by the octet and by the class
---     set-octet                                             49 is the octet of a SET
+--     type-kept, kept-type                                  a universal type's form and contents, by the tag and by the octet
 -- Assumes nothing.
 use mathlib.Core.Path.{_≡_, refl, sym, ap, _∙_}
+use mathlib.Core.List.{List}
 use mathlib.Core.Bool.{Bool, true, false, cond, not, _&&_, _||_}
 use Prim.Native.Nat.{ℕ, zero, suc, _+_, _*_, _%_, _/_, _≤_, _<_}
 use native.Mathlib.Omega.{arith}
@@ -14,7 +14,7 @@ use borrow.Author.Tests.{ne-eqb, eqb-false, le-leb, lt-leb, leb-true, leb-false,
 use Rattle.trees.specs.Trees.{Class, universal, application, contextSpecific, private, Tag, classBits, identifierOctet, reserved, TagOk, setOf}
 use Rattle.trees.specs.Reading.{classOf, tagOf}
 use Rattle.der.specs.Header.{tagOk}
-use Rattle.der.specs.Contents.{constructed as isConstructed}
+use Rattle.der.specs.Contents.{constructed as isConstructed, holdsElements, primitiveOk, universalOk}
 use Rattle.octets.proofs.Laws.Tests.{and-l, and-r}
 
 -- ---- classes
@@ -66,15 +66,15 @@ module _ (form : ℕ) (tag : Tag) (f : form < 2) (l : tag .number < 31) where
   tag-passes r =
       rw (ne-eqb (octet % 32) 31 (λ e. omega arith), ne-eqb octet 0 (λ e. r (sym identifier-tag ∙ ap tagOf e)), ne-eqb octet 32 (λ e. r (sym identifier-tag ∙ ap tagOf e)))
 
-  pub kept : (b : Bool) → (tag .class ≡ universal → b ≡ true) → (leb 64 octet || b) ≡ true
-  kept b u = go (leb 64 octet) refl
+  pub type-kept : (c : List ℕ) → (tag .class ≡ universal → cond (not (eqb form 0)) (holdsElements (tag .number)) (primitiveOk (tag .number) c) ≡ true) → (leb 64 octet || universalOk octet c) ≡ true
+  type-kept c u = go (leb 64 octet) refl
     where
-      go : (t : Bool) → leb 64 octet ≡ t → (t || b) ≡ true
+      go : (t : Bool) → leb 64 octet ≡ t → (t || universalOk octet c) ≡ true
       go true e = refl
       go false e =
           let n = leb-false 64 octet e in
           let z : classBits (tag .class) ≡ 0 = omega (arith, its-class) in
-          u (sym (class-bits (tag .class)) ∙ ap classOf z)
+          (λ i. cond (identifier-form i) (holdsElements (its-number i)) (primitiveOk (its-number i) c)) ∙ u (sym (class-bits (tag .class)) ∙ ap classOf z)
 
 -- ---- read, then written
 
@@ -93,8 +93,8 @@ module _ (octet : ℕ) (h : octet < 256) where
       let z : octet / 64 ≡ 0 = sym (bits-class (octet / 64) (omega arith)) ∙ ap classBits e in
       omega arith
 
-  pub keeps : (b : Bool) → (leb 64 octet || b) ≡ true → classOf (octet / 64) ≡ universal → b ≡ true
-  keeps b e u = rw (lt-leb 64 octet (class-low u)) at e
+  pub kept-type : (c : List ℕ) (b : Bool) → isConstructed octet ≡ b → (leb 64 octet || universalOk octet c) ≡ true → tagOf octet .class ≡ universal → cond b (holdsElements (octet % 32)) (primitiveOk (octet % 32) c) ≡ true
+  kept-type c b f e u = let k : universalOk octet c ≡ true = rw (lt-leb 64 octet (class-low u)) at e in rw f at k
 
   pub octet-tag : tagOk octet ≡ true → TagOk (tagOf octet)
   octet-tag e =
