@@ -8,3 +8,5 @@ pub mod Walks
 pub mod Encoding
 pub mod Reading
 pub mod Writing
+pub mod Outline
+pub mod Theorem

@@ -2,3 +2,5 @@
 pub mod Trees
 pub mod Reading
 pub mod Outline
+pub mod Statement
+pub mod Examples

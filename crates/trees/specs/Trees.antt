@@ -2,7 +2,7 @@
 use mathlib.Core.Path.{_≡_}
 use mathlib.Core.List.{List, [], _∷_, _++_}
 use mathlib.Core.Bool.{true, false, cond}
-use Prim.Native.Nat.{ℕ, zero, suc, _+_, _*_, _-_, _%_, _/_, _≤_, _<_, max}
+use Prim.Native.Nat.{ℕ, zero, suc, _+_, _*_, _-_, _%_, _/_, _<_, max}
 use lib.ListN.{length}
 use lib.Dec.{ltb}
 use Rattle.octets.specs.Octets.{octetAt}
@@ -60,7 +60,7 @@ lengthOctets n = cond (ltb n 128) (n ∷ []) ((128 + length (numberOctets n)) �
 unfoldable pub element : ℕ → List ℕ → List ℕ
 element identifier contents = identifier ∷ lengthOctets (length contents) ++ contents
 
--- the contents octets of a constructed element are the encodings of those that it holds, one behind the other (8.9.2, 8.12.2)
+-- the contents octets of a constructed element are the encodings of those that it holds, one behind the other (8.9.2 to 8.12.2)
 unfoldable mutual
   pub encode : Tree → List ℕ
   encode (primitive tag contents) = element (identifierOctet 0 tag) contents
@@ -75,20 +75,20 @@ unfoldable mutual
 abbrev pub Octets : List ℕ → Type 0
 Octets s = (i : ℕ) → octetAt s i < 256
 
--- for end-of-contents, which no definite form has (8.1.5)
+-- universal 0 is for end-of-contents octets, which belong to the indefinite form (8.1.5)
 abbrev pub reserved : Tag
 reserved = record { class = universal; number = 0 }
 
--- a number that one identifier octet has room for (8.1.2.2): from 31 on there are further ones, which document 01 does not take
+-- a number that one identifier octet has room for (8.1.2.2): from 31 on there are more octets (8.1.2.4), which document 01 does not take
 abbrev pub TagOk : Tag → Type 0
 TagOk tag = (tag .number < 31) × (tag ≡ reserved → ⊥)
 
--- the first length octet is not FF (8.1.3.5 c), which no list of less than 256 ^ 126 octets would need
+-- the first length octet is not FF (8.1.3.5 c): no contents of less than 256 ^ 126 octets need it
 abbrev pub LengthOk : List ℕ → Type 0
 LengthOk contents = length (numberOctets (length contents)) < 127
 
--- A universal type has its contents (8.2 to 8.19, 11.1, 11.2) and its form: 8, 11, 16, 17 and 29 are constructed, and of the others, that may be
--- either, DER has the primitive form (10.2).
+-- A universal type's contents are right (8.2 to 8.19, 11.1, 11.2), and so is its form: 8, 11, 16, 17 and 29 are constructed, all others primitive,
+-- since no string is in pieces (10.2).
 unfoldable mutual
   pub Good : Tree → Type 0
   Good (primitive tag contents) = TagOk tag × LengthOk contents × (tag .class ≡ universal → primitiveOk (tag .number) contents ≡ true) × Octets contents

@@ -3,12 +3,13 @@
 --     head-passed          a sound head by the octets that it is read from (`Passed`)
 --     element-written      an element that is read is what is written for its identifier octet and contents
 --     element-longer       an element is longer than its contents
+--     whole                all of a list, as a stretch from 0
 --     element-alone        no element begins another
 -- Assumes nothing.
 use mathlib.Core.Path.{_≡_, refl, sym, ap, _∙_}
 use mathlib.Core.List.{List, [], _∷_, _++_, append-assoc, append-nil}
 use mathlib.Core.Bool.{Bool, true, false, cond, _&&_}
-use Prim.Native.Nat.{ℕ, zero, suc, _+_, _-_, _≤_, _<_}
+use Prim.Native.Nat.{ℕ, suc, _+_, _-_, _≤_, _<_}
 use native.Mathlib.Omega.{arith}
 use lib.ListN.{length, length-append}
 use lib.Dec.{leb}
@@ -115,8 +116,8 @@ element-written s at o k =
     let q : at + headerSize s at ≡ at + 1 + suc m = omega arith in (
       rw n (len .few),
       (λ i. octetAt s at ∷ (ap lengthOctets n ∙ len .octets) i ++ octetsFrom s (q i) (lengthOf s at))
-      ∙ (ap (λ (l : List ℕ). octetAt s at ∷ l) (sym (part-join s (at + 1) (suc m) (lengthOf s at)))
-      ∙ part-same s at at (suc (suc m + lengthOf s at)) (headerSize s at + lengthOf s at) refl (sym p)),
+          ∙ (ap (λ (l : List ℕ). octetAt s at ∷ l) (sym (part-join s (at + 1) (suc m) (lengthOf s at)))
+          ∙ part-same s at at (suc (suc m + lengthOf s at)) (headerSize s at + lengthOf s at) refl (sym p)),
     )
 
 -- ---- two elements
@@ -125,7 +126,7 @@ empty : (x : List ℕ) → length x ≡ 0 → x ≡ []
 empty [] e = refl
 empty (b ∷ bs) e = absurd (omega arith)
 
-whole : (s : List ℕ) → octetsFrom s 0 (length s - 0) ≡ s
+pub whole : (s : List ℕ) → octetsFrom s 0 (length s - 0) ≡ s
 whole s = let n : length s - 0 ≡ length s = omega arith in part-same s 0 0 (length s - 0) (length s) refl n ∙ octets-whole s
 
 pub element-alone : (i j : ℕ) (c d x : List ℕ) → tagOk i ≡ true → tagOk j ≡ true → LengthOk c → LengthOk d → element i c ++ x ≡ element j d → x ≡ []

@@ -1,24 +1,24 @@
 -- The encoding of a tree.
+--     encode-some        it is not empty
 --     encode-longer      it has no fewer octets than the tree has levels
 --     encode-octets      it is octets
 --     encode-alone       no encoding begins another
 --     padded-same        so padding changes nothing in the order of two encodings,
 --     ascending-same     nor in that of the members of a SET
 -- Assumes nothing.
-use mathlib.Core.Path.{_≡_, refl, sym, ap, subst, _∙_}
+use mathlib.Core.Path.{_≡_, refl, sym, ap, _∙_}
 use mathlib.Core.Logic.{_↔_}
 use mathlib.Core.List.{List, [], _∷_, _++_}
 use mathlib.Core.Bool.{Bool, true, false, cond, _&&_}
-use Prim.Native.Nat.{ℕ, zero, suc, _+_, _-_, _≤_, _<_}
+use Prim.Native.Nat.{ℕ, suc, _+_, _-_, _≤_, _<_}
 use native.Mathlib.Omega.{arith}
 use lib.ListN.{length, length-append}
 use lib.Dec.{ltb}
 use borrow.Author.Tests.{ltb-true, ltb-false}
-use Rattle.trees.specs.Trees.{Tree, Trees, primitive, constructed, nothing, _then_, identifierOctet, numberOctets, lengthOctets, element, encode, encodeAll, Octets, LengthOk, Good, AllGood, height, heightAll, zeros, padded, NotAfter, Ascending, encodings}
+use Rattle.trees.specs.Trees.{Tree, Trees, primitive, constructed, nothing, _then_, identifierOctet, numberOctets, lengthOctets, element, encode, encodeAll, Octets, LengthOk, Good, AllGood, height, heightAll, zeros, padded, Ascending, encodings}
 use Rattle.der.specs.Header.{tagOk}
 use Rattle.der.specs.Order.{octetsLe, ascendFrom, ascending}
 use Rattle.octets.proofs.Laws.Tests.{and-l, and-r}
-use Rattle.trees.proofs.Laws.Parts.{tail-same}
 use Rattle.trees.proofs.Laws.Numbers.{octets-put, number-octets}
 use Rattle.trees.proofs.Laws.Identifier.{identifier-octet, tag-passes}
 use Rattle.trees.proofs.Laws.Element.{element-longer, element-alone}
@@ -51,6 +51,11 @@ mutual
   all-octets : (ts : Trees) → AllGood ts → Octets (encodeAll ts)
   all-octets nothing g = λ i. omega arith
   all-octets (t then ts) g = octets-join (encode t) (encodeAll ts) (encode-octets t (g .0)) (all-octets ts (g .1))
+
+pub encode-some : (t : Tree) → 0 < length (encode t)
+unfolding encode
+encode-some (primitive tag c) = let k = element-longer (identifierOctet 0 tag) c in omega arith
+encode-some (constructed tag ts) = let k = element-longer (identifierOctet 1 tag) (encodeAll ts) in omega arith
 
 mutual
   unfolding height encode

@@ -1,4 +1,5 @@
 -- The identifier octet, written and read. `form` is 0 or 1, bit 6.
+--     unequal                                               two numbers that a test tells apart
 --     identifier-octet, identifier-form, identifier-tag     it is an octet, its bit 6 is the form, and its tag reads back
 --     tag-passes                                            a tag that is right passes the test that is made of the octet
 --     form-octet, octet-tag                                 an octet is written for its own form and tag, which is right if the octet passes the test
@@ -7,15 +8,18 @@
 use mathlib.Core.Path.{_≡_, refl, sym, ap, _∙_}
 use mathlib.Core.List.{List}
 use mathlib.Core.Bool.{Bool, true, false, cond, not, _&&_, _||_}
-use Prim.Native.Nat.{ℕ, zero, suc, _+_, _*_, _%_, _/_, _≤_, _<_}
+use Prim.Native.Nat.{ℕ, zero, suc, _%_, _/_, _<_}
 use native.Mathlib.Omega.{arith}
 use lib.Dec.{leb, eqb}
-use borrow.Author.Tests.{ne-eqb, eqb-false, le-leb, lt-leb, leb-true, leb-false, not-true, not-false, eqb-true}
-use Rattle.trees.specs.Trees.{Class, universal, application, contextSpecific, private, Tag, classBits, identifierOctet, reserved, TagOk, setOf}
+use borrow.Author.Tests.{ne-eqb, eqb-false, lt-leb, leb-false, not-true, not-false, eqb-true}
+use Rattle.trees.specs.Trees.{Class, universal, application, contextSpecific, private, Tag, classBits, identifierOctet, reserved, TagOk}
 use Rattle.trees.specs.Reading.{classOf, tagOf}
 use Rattle.der.specs.Header.{tagOk}
 use Rattle.der.specs.Contents.{constructed as isConstructed, holdsElements, primitiveOk, universalOk}
 use Rattle.octets.proofs.Laws.Tests.{and-l, and-r}
+
+pub unequal : (a b : ℕ) → not (eqb a b) ≡ true → a ≡ b → ⊥
+unequal a b e = eqb-false a b (not-true (eqb a b) e)
 
 -- ---- classes
 
@@ -84,7 +88,7 @@ module _ (octet : ℕ) (h : octet < 256) where
 
   pub form-octet : (b : Bool) → isConstructed octet ≡ b → identifierOctet (cond b 1 0) (tagOf octet) ≡ octet
   form-octet true e =
-      let n = eqb-false (octet / 32 % 2) 0 (not-true (eqb (octet / 32 % 2) 0) e) in
+      let n = unequal (octet / 32 % 2) 0 e in
       by-form 1 (omega arith)
   form-octet false e = by-form 0 (eqb-true (octet / 32 % 2) 0 (not-false (eqb (octet / 32 % 2) 0) e))
 
@@ -98,10 +102,10 @@ module _ (octet : ℕ) (h : octet < 256) where
 
   pub octet-tag : tagOk octet ≡ true → TagOk (tagOf octet)
   octet-tag e =
-      let a = eqb-false (octet % 32) 31 (not-true (eqb (octet % 32) 31) (and-l (not (eqb (octet % 32) 31)) (not (eqb octet 0) && not (eqb octet 32)) e)) in
+      let a = unequal (octet % 32) 31 (and-l (not (eqb (octet % 32) 31)) (not (eqb octet 0) && not (eqb octet 32)) e) in
       let r = and-r (not (eqb (octet % 32) 31)) (not (eqb octet 0) && not (eqb octet 32)) e in
-      let b = eqb-false octet 0 (not-true (eqb octet 0) (and-l (not (eqb octet 0)) (not (eqb octet 32)) r)) in
-      let c = eqb-false octet 32 (not-true (eqb octet 32) (and-r (not (eqb octet 0)) (not (eqb octet 32)) r)) in
+      let b = unequal octet 0 (and-l (not (eqb octet 0)) (not (eqb octet 32)) r) in
+      let c = unequal octet 32 (and-r (not (eqb octet 0)) (not (eqb octet 32)) r) in
       (omega arith, λ q. none b c (class-low (ap (λ (t : Tag). t .class) q)) (ap (λ (t : Tag). t .number) q))
     where
       none : (octet ≡ 0 → ⊥) → (octet ≡ 32 → ⊥) → octet < 64 → octet % 32 ≡ 0 → ⊥

@@ -6,11 +6,11 @@
 use mathlib.Core.Path.{_≡_, refl, sym, ap, _∙_}
 use mathlib.Core.List.{List, [], _∷_}
 use mathlib.Core.Bool.{Bool, true, false, not, _&&_, _||_}
-use Prim.Native.Nat.{ℕ, zero, suc, _+_, _-_, _^_, _≤_, _<_}
+use Prim.Native.Nat.{ℕ, zero, suc, _+_, _-_, _≤_, _<_}
 use native.Mathlib.Omega.{arith}
 use lib.ListN.{length}
 use lib.Dec.{ltb, leb, eqb}
-use borrow.Author.Tests.{lt-ltb, le-ltb, ltb-true, ltb-false, ne-eqb, eqb-false, le-leb, leb-true, not-true}
+use borrow.Author.Tests.{lt-ltb, le-ltb, ltb-true, ltb-false, ne-eqb, le-leb, leb-true}
 use Rattle.trees.specs.Trees.{numberOctets, lengthOctets, Octets}
 use Rattle.der.specs.Header.{lengthOf, longOk, lengthOk, headerSize}
 use Rattle.octets.specs.Octets.{octetAt, octetsFrom}
@@ -18,6 +18,7 @@ use Rattle.octets.specs.Numbers.{numberOf}
 use Rattle.octets.proofs.Laws.Octets.{octets-long, octets-at}
 use Rattle.octets.proofs.Laws.Tests.{and-l, and-r}
 use Rattle.trees.proofs.Laws.Parts.{head-same, tail-same, part-same}
+use Rattle.trees.proofs.Laws.Identifier.{unequal}
 use Rattle.trees.proofs.Laws.Numbers.{number-reads, number-high, number-written, number-fits}
 
 pub part-octets : (s : List ℕ) → Octets s → (at n : ℕ) → Octets (octetsFrom s at n)
@@ -108,18 +109,20 @@ module _ (s : List ℕ) (at : ℕ) (o : Octets s) where
   abbrev first : ℕ
   first = octetAt s (at + 1)
 
+  abbrev high : ℕ
+  high = octetAt s (at + 2)
+
   write-short : first < 128 → LengthWritten s at
   unfolding octetsFrom
   write-short h =
       let e = read-short s at first refl h .said in
       let k = number-fits first 1 (omega arith) (omega arith) in
-      let z : first - 128 ≡ 0 = omega arith in
       record {
         few = rw e (omega arith);
         octets = ap lengthOctets e ∙ (octets-short first h ∙ part-same s (at + 1) (at + 1) 1 (suc (first - 128)) refl (omega arith));
       }
 
-  module _ (h : 128 ≤ first) (a : first ≡ 128 → ⊥) (b : first ≡ 255 → ⊥) (c : octetAt s (at + 2) ≡ 0 → ⊥) (d : 128 ≤ lengthOf s at) where
+  module _ (h : 128 ≤ first) (a : first ≡ 128 → ⊥) (b : first ≡ 255 → ⊥) (c : high ≡ 0 → ⊥) (d : 128 ≤ lengthOf s at) where
     abbrev said : List ℕ
     said = octetsFrom s (at + 2) (first - 128)
 
@@ -127,9 +130,9 @@ module _ (s : List ℕ) (at : ℕ) (o : Octets s) where
     write-same =
         let m : 128 + (first - 128) ≡ first = omega arith in
         let z : at + 2 + 0 ≡ at + 2 = omega arith in
-        let high : octetAt said 0 ≡ octetAt s (at + 2) = octets-at s (at + 2) (first - 128) 0 (omega arith) ∙ ap (octetAt s) z in
+        let same : octetAt said 0 ≡ high = octets-at s (at + 2) (first - 128) 0 (omega arith) ∙ ap (octetAt s) z in
         ap numberOctets (said-long s at (numberOf said) (first - 128) (sym m) refl)
-        ∙ number-written said (part-octets s o (at + 2) (first - 128)) (λ e. c (sym high ∙ e))
+        ∙ number-written said (part-octets s o (at + 2) (first - 128)) (λ e. c (sym same ∙ e))
 
     write-long : LengthWritten s at
     unfolding octetsFrom
@@ -148,13 +151,13 @@ module _ (s : List ℕ) (at : ℕ) (o : Octets s) where
   pub length-written : lengthOk s at ≡ true → LengthWritten s at
   length-written k = go (ltb first 128) refl k
     where
-      go : (b : Bool) → ltb first 128 ≡ b → (b || longOk first (octetAt s (at + 2)) (lengthOf s at)) ≡ true → LengthWritten s at
+      go : (b : Bool) → ltb first 128 ≡ b → (b || longOk first high (lengthOf s at)) ≡ true → LengthWritten s at
       go true t k = write-short (ltb-true first 128 t)
       go false t k =
-          let low = and-l (not (eqb first 128) && not (eqb first 255)) (not (eqb (octetAt s (at + 2)) 0) && leb 128 (lengthOf s at)) k in
-          let high = and-r (not (eqb first 128) && not (eqb first 255)) (not (eqb (octetAt s (at + 2)) 0) && leb 128 (lengthOf s at)) k in
+          let low = and-l (not (eqb first 128) && not (eqb first 255)) (not (eqb high 0) && leb 128 (lengthOf s at)) k in
+          let rest = and-r (not (eqb first 128) && not (eqb first 255)) (not (eqb high 0) && leb 128 (lengthOf s at)) k in
           write-long (ltb-false first 128 t)
-          (eqb-false first 128 (not-true (eqb first 128) (and-l (not (eqb first 128)) (not (eqb first 255)) low)))
-          (eqb-false first 255 (not-true (eqb first 255) (and-r (not (eqb first 128)) (not (eqb first 255)) low)))
-          (eqb-false (octetAt s (at + 2)) 0 (not-true (eqb (octetAt s (at + 2)) 0) (and-l (not (eqb (octetAt s (at + 2)) 0)) (leb 128 (lengthOf s at)) high)))
-          (leb-true 128 (lengthOf s at) (and-r (not (eqb (octetAt s (at + 2)) 0)) (leb 128 (lengthOf s at)) high))
+          (unequal first 128 (and-l (not (eqb first 128)) (not (eqb first 255)) low))
+          (unequal first 255 (and-r (not (eqb first 128)) (not (eqb first 255)) low))
+          (unequal high 0 (and-l (not (eqb high 0)) (leb 128 (lengthOf s at)) rest))
+          (leb-true 128 (lengthOf s at) (and-r (not (eqb high 0)) (leb 128 (lengthOf s at)) rest))

@@ -5,14 +5,14 @@
 use mathlib.Core.Path.{_≡_, refl, sym, ap, subst, _∙_}
 use mathlib.Core.Logic.{_↔_}
 use mathlib.Core.List.{List, [], _∷_, _++_, map, map-append}
-use mathlib.Core.Bool.{true, false, _&&_, _||_}
+use mathlib.Core.Bool.{true, false, _||_}
 use Prim.Native.Nat.{ℕ, zero, suc, _+_, _-_, _≤_, _<_}
 use native.Mathlib.Omega.{arith}
 use lib.ListN.{length, length-append}
 use lib.Dec.{leb}
 use Rattle.trees.specs.Trees.{Tag, Tree, Trees, primitive, constructed, nothing, _then_, identifierOctet, element, encode, encodeAll, Good, AllGood, height, heightAll, Ascending, encodings, setOf, Ordered, AllOrdered}
 use Rattle.trees.specs.Reading.{tagOf, treesOf, treeOf}
-use Rattle.trees.specs.Outline.{Line, lineOf, outline, outlineAll}
+use Rattle.trees.specs.Outline.{lineOf, outline, outlineAll}
 use Rattle.der.specs.Header.{wholeHead, headOf, childrenOf}
 use Rattle.der.specs.Contents.{constructed as isConstructed, universalOk, contentsOf, elementOk}
 use Rattle.der.specs.Order.{ascending, octetsOf}
@@ -24,9 +24,9 @@ use Rattle.octets.specs.Octets.{octetsFrom}
 use Rattle.octets.proofs.Laws.Octets.{octets-long}
 use Rattle.trees.proofs.Laws.Parts.{part-same, part-cut}
 use Rattle.trees.proofs.Laws.Identifier.{identifier-tag, identifier-form, tag-passes, type-kept}
-use Rattle.trees.proofs.Laws.Element.{element-longer, Reads, element-reads}
+use Rattle.trees.proofs.Laws.Element.{Reads, element-reads}
 use Rattle.trees.proofs.Laws.Walks.{None, none-first, none-join, nodeOf, elements-plain, elements-list, ok-fault, ordered-plain, ordered-list}
-use Rattle.trees.proofs.Laws.Encoding.{encode-longer, ascending-same}
+use Rattle.trees.proofs.Laws.Encoding.{encode-some, ascending-same}
 
 -- what the octets of t say where they are read as the element h at place at
 pub record Here (s : List ℕ) (d at : ℕ) (t : Tree) (h : Head) : Type 0 where
@@ -168,11 +168,6 @@ read-next d s at t ts h hs one more =
           map-append lineOf (elementsOf s d h) (joined (elementsOf s d) hs)
           ∙ (λ i. one .lines depth k i ++ (more .lines depth k ∙ ap (outlineAll ts depth) (one .past)) i);
     }
-
-encode-some : (t : Tree) → 0 < length (encode t)
-unfolding encode
-encode-some (primitive tag c) = let k = element-longer (identifierOctet 0 tag) c in omega arith
-encode-some (constructed tag ts) = let k = element-longer (identifierOctet 1 tag) (encodeAll ts) in omega arith
 
 read-all : (d : ℕ) → ReadsOne d → ReadsAll d
 unfolding AllGood encodeAll heightAll

@@ -1,29 +1,28 @@
 -- Walks that find nothing (`None`).
 --     none-first, none-join                     the first element of a walk, and two walks one behind the other
---     stretch-form, stretch-sound               the outermost element by what its walk finds: no refusal 4; no refusal at all
---     elements-plain, elements-list             an element by its form
---     members-next, members-done                the members of a list, one by one
---     faulty-none, none-faulty, deep-faulty     an element that is not faulty
---     unordered-plain, unordered-list           one that is no SET out of order
+--     form-none, sound-none                     what a walk that finds nothing gives: no refusal 4; no refusal at all
+--     stretch-whole                             the verdict on the outermost element is that on its walk
+--     elements-plain, elements-list             an element's walk by its form
+--     ok-fault, fault-ok, deep-none             an element is not faulty exactly if it is sound by itself; below the last level each is
+--     ordered-plain, ordered-list               when it is no SET out of order
 -- Assumes nothing.
-use mathlib.Core.Path.{_≡_, refl, sym, ap, _∙_}
+use mathlib.Core.Path.{_≡_, refl, sym}
 use mathlib.Core.Logic.{_↔_}
 use mathlib.Core.List.{List, [], _∷_, _++_, map}
-use mathlib.Core.Bool.{Bool, true, false, cond, not, _&&_, _||_}
-use Prim.Native.Nat.{ℕ, suc, _≤_, _<_}
+use mathlib.Core.Bool.{Bool, true, false, cond, not, _&&_}
+use Prim.Native.Nat.{ℕ, suc}
 use native.Mathlib.Omega.{arith}
 use lib.Dec.{eqb}
 use borrow.Author.Tests.{ne-eqb, eqb-true, eqb-false}
 use Rattle.der.specs.Header.{headOf, childrenOf}
 use Rattle.der.specs.Contents.{constructed, elementOk}
 use Rattle.der.specs.Order.{ascendFrom, ascending, octetsOf}
-use Rattle.der.specs.Elements.{Node, joined, elementsOf, membersOf}
+use Rattle.der.specs.Elements.{Node, elementsOf, membersOf}
 use Rattle.der.specs.Soundness.{faulty, unordered, Found, first, judge, soundness, stretchSoundness, refusalNumber}
 use Rattle.der.specs.Soundness.Found.{nothing, found}
 use Rattle.der.specs.declared.header.Head.{Head}
 use Rattle.der.specs.declared.walk.Soundness.{Soundness}
 use Rattle.der.specs.declared.walk.Soundness.the-variants.{Sound, Unsound}
-use Rattle.der.proofs.Laws.Children.{children-done, children-next}
 
 abbrev pub None : (Node → Bool) → List Node → Type 0
 None p ns = first p ns ≡ nothing
@@ -121,11 +120,3 @@ module _ (s : List ℕ) (d : ℕ) (h : Head) where
 pub deep-none : (s : List ℕ) (h : Head) → None (faulty s) (elementsOf s 0 h) → ⊥
 unfolding elementsOf first
 deep-none s h e = let n : _≡_ {A = ℕ} 0 1 = cc in omega arith
-
--- ---- the members of a list
-
-pub members-next : (s : List ℕ) (d at end : ℕ) → at < end → membersOf s d at end ≡ elementsOf s d (headOf s at end) ++ membersOf s d (headOf s at end .end) end
-members-next s d at end l = ap (joined (elementsOf s d)) (children-next s at end l)
-
-pub members-done : (s : List ℕ) (d at end : ℕ) → end ≤ at → membersOf s d at end ≡ []
-members-done s d at end l = ap (joined (elementsOf s d)) (children-done s at end l)

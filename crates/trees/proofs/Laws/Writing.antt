@@ -1,10 +1,10 @@
 -- What the walk finds not faulty is an encoding: `writes-one`, of an element. The tree that is read is good, has no more levels than the walk, and
 -- encodes to the octets that were read. By induction on the levels, and within a level on the list of elements.
 -- Assumes nothing.
-use mathlib.Core.Path.{_≡_, refl, sym, ap, subst, _∙_}
-use mathlib.Core.List.{List, [], _∷_, _++_}
-use mathlib.Core.Bool.{Bool, true, false, cond, _&&_, _||_}
-use Prim.Native.Nat.{ℕ, zero, suc, _+_, _-_, _≤_, _<_}
+use mathlib.Core.Path.{_≡_, refl, sym, subst, _∙_}
+use mathlib.Core.List.{List, [], _++_}
+use mathlib.Core.Bool.{Bool, true, false, cond, _||_}
+use Prim.Native.Nat.{ℕ, zero, suc, _+_, _-_, _≤_}
 use native.Mathlib.Omega.{arith}
 use lib.ListN.{length}
 use lib.Dec.{leb}
@@ -12,8 +12,8 @@ use Rattle.trees.specs.Trees.{Tree, Trees, identifierOctet, element, enc
 use Rattle.trees.specs.Reading.{tagOf, treesOf, treeOf}
 use Rattle.der.specs.Header.{tagOk, lengthOf, lengthOk, headerSize, wholeHead, headOf, childrenOf}
 use Rattle.der.specs.Contents.{constructed as isConstructed, universalOk, contentsOf, elementOk}
-use Rattle.der.specs.Elements.{Node, heldBy, joined, elementsOf, membersOf}
-use Rattle.der.specs.Soundness.{faulty, first}
+use Rattle.der.specs.Elements.{heldBy, joined, elementsOf, membersOf}
+use Rattle.der.specs.Soundness.{faulty}
 use Rattle.der.specs.Walking.{Chain}
 use Rattle.der.specs.Walking.Chain.{done, next}
 use Rattle.der.specs.declared.header.Head.{Head}
@@ -24,7 +24,7 @@ use Rattle.octets.proofs.Laws.Tests.{and-l}
 use Rattle.trees.proofs.Laws.Parts.{part-same, part-meet}
 use Rattle.trees.proofs.Laws.Identifier.{form-octet, octet-tag, kept-type}
 use Rattle.trees.proofs.Laws.Lengths.{part-octets}
-use Rattle.trees.proofs.Laws.Element.{Passed, head-passed, element-written}
+use Rattle.trees.proofs.Laws.Element.{head-passed, element-written}
 use Rattle.trees.proofs.Laws.Walks.{None, none-first, none-join, nodeOf, fault-ok, deep-none}
 use Rattle.trees.proofs.Laws.Reading.{tree-plain, tree-list}
 
