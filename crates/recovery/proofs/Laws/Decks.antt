@@ -1,45 +1,34 @@
 -- From the octets of a deck to its blocks.
---     AllLong                     each block has 512 octets
---     from-long, blocks-long, written-long     so the writer's blocks
---     joined-length               as many octets
---     joined-blocks               the blocks of whole blocks one behind the other, before other octets
---     past-whole                  the blocks behind whole blocks
---     deck-events                 the events of a spoiled deck are those expected
+--     joined-blocks                    the blocks of whole blocks one behind the other, before other octets
+--     past-whole                       the blocks behind whole blocks
+--     written-long, written-blocks     the writer's blocks have 512 octets, and are the blocks of the deck that they make
+--     blocks-spoilt, deck-spoilt       the blocks of a spoiled deck are those it had, spoiled
+--     deck-events                      the events of a spoiled deck are those expected
 -- Assumes nothing.
-use mathlib.Core.Path.{_≡_, refl, sym, ap, ap₂, _∙_}
+use mathlib.Core.Path.{_≡_, sym, ap, ap₂, _∙_}
 use mathlib.Core.Bool.{false}
 use mathlib.Core.Logic.{_⊎_, ⊎-elim}
 use mathlib.Core.List.{List, [], _∷_, _++_, append-nil, append-assoc}
 use Prim.Native.Nat.{ℕ, zero, suc, _+_, _*_, _/_, _^_, _≤_, _<_}
 use native.Mathlib.Omega.{arith}
-use lib.ListN.{length, take, drop, length-append, length-drop}
-use lib.Seq.{take-at, drop-at, drop-drop, length-take-le}
+use lib.ListN.{length, take, drop, length-append}
+use lib.Seq.{take-at, drop-at, drop-drop}
 use Rattle.blocks.specs.Block.{sound}
-use Rattle.blocks.specs.Record.{parts}
-use Rattle.blocks.proofs.Laws.Block.{block-length}
-use Rattle.writer.specs.Cutting.{zeroFilled, blocksFrom, blocksOf, joined}
+use Rattle.writer.specs.Cutting.{blocksOf, joined}
+use Rattle.writer.proofs.Laws.Cutting.{AllLong, joined-length, blocks-long}
 use Rattle.reader.specs.Runs.{cut, blocks, blockAt}
 use Rattle.reader.specs.Events.{events}
 use Rattle.reader.proofs.Laws.Places.{next-block}
 use Rattle.recovery.specs.Submitted.{Submitted, octetsOf, written}
 use Rattle.recovery.specs.Spoiling.{Spoiled}
-use Rattle.recovery.proofs.Laws.Taken.{Proper, AllProper}
-use Rattle.recovery.proofs.Laws.Written.{filled-length}
+use Rattle.recovery.proofs.Laws.Taken.{AllProper}
 use Rattle.recovery.proofs.Laws.Recovery.{Spoilt, ended, kept, spoilt, expectedEvents, recovery}
 
 -- ---- whole blocks
 
-abbrev pub AllLong : List (List ℕ) → Type 0
-AllLong [] = Unit {0}
-AllLong (b ∷ bs) = (length b ≡ 512) × AllLong bs
-
 long-append : (xs ys : List (List ℕ)) → AllLong xs → AllLong ys → AllLong (xs ++ ys)
 long-append [] ys hx hy = hy
 long-append (x ∷ xs) ys hx hy = (hx .0, long-append xs ys (hx .1) hy)
-
-pub joined-length : (bs : List (List ℕ)) → AllLong bs → length (joined bs) ≡ 512 * length bs
-joined-length [] h = refl
-joined-length (b ∷ bs) h = rw length-append (omega (arith, h .0, joined-length bs (h .1)))
 
 cut-joined : (bs : List (List ℕ)) (m : ℕ) (d : List ℕ) → AllLong bs → cut (length bs + m) (joined bs ++ d) ≡ bs ++ cut m d
 cut-joined [] m d h =
@@ -79,23 +68,11 @@ past-whole before d position h =
 
 -- ---- the writer's blocks
 
-from-long : (number n k j : ℕ) (content : List ℕ) → number < 2 ^ 32 → n < 65536 → k * 502 ≤ length content → AllLong (blocksFrom number n j k content)
-from-long number n zero j content hnumber hn h = tt
-from-long number n (suc k) j content hnumber hn h = (
-  block-length number n j (take 502 content) hnumber hn (length-take-le 502 content (omega arith)),
-  from-long number n k (suc j) (drop 502 content) hnumber hn (simp length-drop (omega arith)),
-)
-
-pub blocks-long : (number : ℕ) (p : List ℕ) → number < 2 ^ 32 → Proper p → AllLong (blocksOf number p)
-unfolding blocksOf
-blocks-long number p hnumber ok =
-    from-long number (length p) (parts (length p)) 0 (zeroFilled p) hnumber (omega (arith, ok .most)) (omega (arith, filled-length p ok))
-
 pub written-long : (number : ℕ) (ss : List Submitted) → number + length ss ≤ 2 ^ 32 → AllProper ss → AllLong (written number ss)
 written-long number [] hnumber ok = tt
 written-long number (s ∷ ss) hnumber ok =
     long-append (blocksOf number (octetsOf s)) (written (suc number) ss)
-    (blocks-long number (octetsOf s) (omega arith) (ok .0))
+    (blocks-long (octetsOf s) number (omega arith) (omega (arith, ok .0 .most)))
     (written-long (suc number) ss (omega arith) (ok .1))
 
 -- ---- decks, spoiled

@@ -1,5 +1,6 @@
 -- Demand 3 of blocks: the events of a deck of our own writer some of whose blocks were spoiled, record by record.
 --     Spoilt, ended, kept, spoilt     a list of blocks, and each as it was or failing its check
+--     spoilt-length                   as many blocks
 --     expectedEvents                  what is expected, as events
 --     whole-record                    a record none of whose blocks was spoiled is handed out, whatever follows it
 --     blocks-sound, unspoiled         the writer's blocks are sound; so, spoiled or not, they are all sound exactly if they are as they were
@@ -18,6 +19,7 @@ use Rattle.blocks.specs.Record.{parts}
 use Rattle.blocks.proofs.Laws.Logic.{and-both, and-left, and-right, not-true, true-or-false}
 use Rattle.blocks.proofs.Laws.Block.{block-len, block-part}
 use Rattle.writer.specs.Cutting.{zeroFilled, blocksFrom, blocksOf}
+use Rattle.writer.proofs.Laws.Cutting.{from-count, filled-length, blocks-count}
 use Rattle.reader.specs.Runs.{starts}
 use Rattle.reader.specs.Events.{Event, record-at, lost-at, lossOf, reading}
 use Rattle.reader.proofs.Laws.Steps.{some-parts, run-sound, run-places, past-record, past-lost}
@@ -25,7 +27,7 @@ use Rattle.recovery.specs.Submitted.{Submitted, octetsOf, written}
 use Rattle.recovery.specs.Spoiling.{allSound}
 use Rattle.recovery.specs.Expected.{extent}
 use Rattle.recovery.proofs.Laws.Taken.{Proper, AllProper}
-use Rattle.recovery.proofs.Laws.Written.{filled-length, from-length, blocks-length, first-number, first-length, blocks-start, blocks-record}
+use Rattle.recovery.proofs.Laws.Written.{first-number, first-length, blocks-start, blocks-record}
 
 -- ---- what is expected, as events
 
@@ -106,7 +108,7 @@ module _ (number n : ℕ) where
       → reading 0 (suc at) (cs ++ rest) ≡ lostEvents (suc at) cs ++ reading 0 (at + suc k) rest
   later-lost at k content cs rest s =
       duds-lost (suc at) cs rest (later-duds k 0 content cs s)
-      ∙ ap (λ (m : ℕ). lostEvents (suc at) cs ++ reading 0 m rest) (omega (arith, spoilt-length s, from-length number n k 1 content))
+      ∙ ap (λ (m : ℕ). lostEvents (suc at) cs ++ reading 0 m rest) (omega (arith, spoilt-length s, from-count number n k 1 content))
 
   record-lost : (hnumber : number < 2 ^ 32) (hn : n < 65536) (at k : ℕ) (content : List ℕ) (cs rest : List (List ℕ))
       → parts n ≡ suc k → length content ≡ suc k * 502
@@ -114,7 +116,7 @@ module _ (number n : ℕ) where
       → reading 0 at (cs ++ rest) ≡ lostEvents at cs ++ reading 0 (at + suc k) rest
   record-lost hnumber hn at k content cs rest hk hd (kept {cs = cs′} s) f =
       let b : List ℕ = blockOf number n 0 (take 502 content) in
-      let long : length cs′ ≡ k = spoilt-length s ∙ from-length number n k 1 (drop 502 content) in
+      let long : length cs′ ≡ k = spoilt-length s ∙ from-count number n k 1 (drop 502 content) in
       let len : lengthOf b ≡ n = block-len number n 0 (take 502 content) hnumber hn (length-take-le 502 content (omega arith)) in
       past-lost at b (cs′ ++ rest)
       (not-true (λ t. false≢true (sym f ∙ all-sound (b ∷ cs′) rest (λ i l. run-sound (b ∷ (cs′ ++ rest)) t i (rw (len, hk) (omega arith))))))
@@ -133,14 +135,14 @@ module _ (number : ℕ) (p : List ℕ) (h₀ : 0 < number) (hnumber : number < 2
         first-number p ok number h₀ hnumber rest,
         first-length p ok number h₀ hnumber rest,
         blocks-record p ok number h₀ hnumber rest,
-        drop-at (blocksOf number p) rest (parts (length p)) (blocks-length p ok number),
+        drop-at (blocksOf number p) rest (parts (length p)) (blocks-count p number),
       )
 
   pub blocks-sound : allSound (blocksOf number p) ≡ true
   blocks-sound =
       all-sound (blocksOf number p) [] (λ i l.
       run-sound (blocksOf number p ++ []) (blocks-start p ok number h₀ hnumber []) i
-      (rw (first-length p ok number h₀ hnumber []) (omega (arith, blocks-length p ok number))))
+      (rw (first-length p ok number h₀ hnumber []) (omega (arith, blocks-count p number))))
 
   pub unspoiled : (cs : List (List ℕ)) → Spoilt (blocksOf number p) cs → (allSound cs ≡ true) ↔ (cs ≡ blocksOf number p)
   unspoiled cs s = (all-kept s, λ e. rw e blocks-sound)
@@ -150,7 +152,7 @@ module _ (number : ℕ) (p : List ℕ) (h₀ : 0 < number) (hnumber : number < 2
   broken at zero cs rest hk s f = absurd (omega (arith, ok .least))
   broken at (suc k) cs rest hk s f =
       record-lost number (length p) hnumber (omega (arith, ok .most)) at k (zeroFilled p) cs rest hk
-      (filled-length p ok ∙ ap (λ (m : ℕ). m * 502) hk) s f
+      (filled-length p ∙ ap (λ (m : ℕ). m * 502) hk) s f
 
   one-record : (at : ℕ) (cs rest : List (List ℕ)) → Spoilt (blocksOf number p) cs
       → reading 0 at (cs ++ rest) ≡ fateEvents (allSound cs) at number p cs ++ reading 0 (at + parts (length p)) rest
@@ -171,7 +173,7 @@ recovery (s ∷ ss) number at cs h₀ hnumber ok spoiled =
     let k : ℕ = parts (length p) in
     let below : number < 2 ^ 32 = omega arith in
     let both : Spoilt (blocksOf number p) (take k cs) × Spoilt (written (suc number) ss) (drop k cs) =
-    rw (blocks-length p (ok .0) number) at (spoilt-split (blocksOf number p) (written (suc number) ss) cs spoiled) in
+    rw (blocks-count p number) at (spoilt-split (blocksOf number p) (written (suc number) ss) cs spoiled) in
     ap (λ (l : List (List ℕ)). reading 0 at l) (sym (take-append-drop k cs))
     ∙ one-record number p h₀ below (ok .0) at (take k cs) (drop k cs) (both .0)
     ∙ ap (λ (es : List Event). fateEvents (allSound (take k cs)) at number p (take k cs) ++ es)

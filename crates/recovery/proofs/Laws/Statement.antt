@@ -12,18 +12,19 @@ use native.Mathlib.Omega.{arith}
 use lib.ListN.{length, take, drop, length-append, length-drop}
 use lib.Seq.{take-at, drop-at, length-take-le}
 use Rattle.writer.specs.Cutting.{blocksOf, joined}
+use Rattle.writer.proofs.Laws.Cutting.{blocks-count}
 use Rattle.reader.specs.Runs.{blocks}
-use Rattle.reader.specs.Events.{Event, events, lossOf}
+use Rattle.reader.specs.Events.{Event, lossOf}
 use Rattle.reader.specs.Stepping.{itemOf}
-use Rattle.reader.specs.Walking.{walk, positionOf, itemsOf}
+use Rattle.reader.specs.Walking.{positionOf, itemsOf}
 use Rattle.reader.specs.declared.stepping.Item.{Item}
 use Rattle.reader.specs.declared.stepping.Item.the-variants as Items
+use Rattle.reader.proofs.Laws.Walking.{walked}
 use Rattle.recovery.specs.Submitted.{Submitted, octetsOf, Writable, AllWritable, written}
 use Rattle.recovery.specs.Spoiling.{Spoiled, allSound}
 use Rattle.recovery.specs.Expected.{allLost, fate, extent, expected, allHandedOut, blocksTaken, OneBehindTheOther}
 use Rattle.recovery.specs.Statements.{Recovers, NoneSpoiled, EachOnce}
 use Rattle.recovery.proofs.Laws.Taken.{AllProper, all-proper, linted}
-use Rattle.recovery.proofs.Laws.Written.{blocks-length}
 use Rattle.recovery.proofs.Laws.Recovery.{lostEvents, fateEvents, expectedEvents, spoilt-length, blocks-sound}
 use Rattle.recovery.proofs.Laws.Decks.{written-blocks, deck-spoilt, deck-events}
 
@@ -62,7 +63,7 @@ none-fails : (room : List ℕ) (ss : List Submitted) (position number : ℕ) →
 none-fails room [] position number h₀ small ok = refl
 none-fails room (s ∷ ss) position number h₀ small ok =
     let bs : List (List ℕ) = blocksOf number (octetsOf s) in
-    let long : length bs ≡ extent s = blocks-length (octetsOf s) (ok .0) number in
+    let long : length bs ≡ extent s = blocks-count (octetsOf s) number in
     rw (
       take-at bs (written (suc number) ss) (extent s) long,
       drop-at bs (written (suc number) ss) (extent s) long,
@@ -98,7 +99,7 @@ behind-expected room [] position number cs ok h = omega arith
 behind-expected room (s ∷ ss) position number cs ok h =
     let k : ℕ = extent s in
     let long : length cs ≡ k + length (written (suc number) ss) =
-    h ∙ length-append (blocksOf number (octetsOf s)) (written (suc number) ss) ∙ ap (λ (m : ℕ). m + length (written (suc number) ss)) (blocks-length (octetsOf s) (ok .0) number) in
+    h ∙ length-append (blocksOf number (octetsOf s)) (written (suc number) ss) ∙ ap (λ (m : ℕ). m + length (written (suc number) ss)) (blocks-count (octetsOf s) number) in
     let rest : length (drop k cs) ≡ length (written (suc number) ss) = rw length-drop (omega arith) in
     let e : position + k + length (drop k cs) ≡ position + length cs = omega arith in
     behind-append
@@ -118,18 +119,17 @@ each-once ss deck room small w s =
 
 -- ---- the walk through the deck
 
-module _ (walked : (deck room : List ℕ) (steps : ℕ) → length (blocks deck) ≤ steps → walk steps deck 0 room ≡ itemsOf room (events deck)) where
-  pub recovers : (ss : List Submitted) → Recovers ss
-  recovers ss deck room steps small w s enough =
-      walked deck room steps enough
-      ∙ ap (λ (es : List Event). itemsOf room es) (deck-events ss small (all-proper ss w) deck s)
-      ∙ items-expected room ss 0 1 (blocks deck) w
+pub recovers : (ss : List Submitted) → Recovers ss
+recovers ss deck room steps small w s enough =
+    walked deck room steps enough
+    ∙ ap (λ (es : List Event). itemsOf room es) (deck-events ss small (all-proper ss w) deck s)
+    ∙ items-expected room ss 0 1 (blocks deck) w
 
-  pub none-spoiled : (ss : List Submitted) → NoneSpoiled ss
-  none-spoiled ss room steps small w enough =
-      let deck : List ℕ = joined (written 1 ss) in
-      let ok : AllProper ss = all-proper ss w in
-      let same : Spoiled deck deck = record { as-long = refl; each = λ position. inl refl } in
-      recovers ss deck room steps small w same (rw (written-blocks ss small ok) enough)
-      ∙ ap (λ (bs : List (List ℕ)). expected room 0 1 ss bs) (written-blocks ss small ok)
-      ∙ none-fails room ss 0 1 (omega arith) (omega arith) ok
+pub none-spoiled : (ss : List Submitted) → NoneSpoiled ss
+none-spoiled ss room steps small w enough =
+    let deck : List ℕ = joined (written 1 ss) in
+    let ok : AllProper ss = all-proper ss w in
+    let same : Spoiled deck deck = record { as-long = refl; each = λ position. inl refl } in
+    recovers ss deck room steps small w same (rw (written-blocks ss small ok) enough)
+    ∙ ap (λ (bs : List (List ℕ)). expected room 0 1 ss bs) (written-blocks ss small ok)
+    ∙ none-fails room ss 0 1 (omega arith) (omega arith) ok

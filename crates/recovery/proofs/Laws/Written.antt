@@ -1,7 +1,5 @@
 -- What the writer's blocks are: a run, whatever follows it, and the record again.
 --     block-is-part                              each block is its part
---     filled-length, blocks-length               how much data there is, and how many blocks
---     from-length                                so many blocks, of any data
 --     blocks-start                               a run starts at the first
 --     first-number, first-length, blocks-record  its number, its length and its octets
 -- Assumes nothing.
@@ -11,7 +9,7 @@ use mathlib.Core.List.{List, _++_}
 use Prim.Native.Nat.{ℕ, zero, suc, _*_, _-_, _^_, _<_}
 use native.Mathlib.Omega.{arith}
 use native.Mathlib.Nat.{not-suc-le-zero}
-use lib.ListN.{length, take, drop, replicate, length-append, length-replicate, length-drop, take-append-drop, drop-of-length-le, List·getD-append}
+use lib.ListN.{length, take, drop, replicate, length-drop, take-append-drop, drop-of-length-le, List·getD-append}
 use lib.Seq.{take-at, drop-at, length-take-le}
 use borrow.Author.Tests.{eq-eqb, le-leb, ne-eqb}
 use Rattle.blocks.specs.Block.{numberOf, lengthOf, blockOf}
@@ -19,6 +17,7 @@ use Rattle.blocks.specs.Record.{parts, zeros}
 use Rattle.blocks.proofs.Laws.Logic.{and-both, fitting}
 use Rattle.blocks.proofs.Laws.Block.{block-sound, block-number, block-len, block-part, block-clear, block-data}
 use Rattle.writer.specs.Cutting.{zeroFilled, blocksFrom, blocksOf}
+use Rattle.writer.proofs.Laws.Cutting.{filled-length}
 use Rattle.reader.specs.Runs.{isPart, areParts, dataFrom, isWhole, run, first, starts, recordFrom}
 use Rattle.recovery.proofs.Laws.Taken.{Proper}
 
@@ -29,10 +28,6 @@ block-is-part number n j content hnumber hn h =
     (and-both (eq-eqb _ _ (block-number number n j content hnumber hn h))
     (and-both (eq-eqb _ _ (block-len number n j content hnumber hn h))
     (and-both (eq-eqb _ _ (block-part number n j content)) (block-clear number n j content))))
-
-pub from-length : (number n k j : ℕ) (content : List ℕ) → length (blocksFrom number n j k content) ≡ k
-from-length number n zero j content = refl
-from-length number n (suc k) j content = ap suc (from-length number n k (suc j) (drop 502 content))
 
 -- k blocks, of as much data, before others
 module _ (number n : ℕ) (hnumber : number < 2 ^ 32) (hn : n < 65536) (rest : List (List ℕ)) where
@@ -58,10 +53,6 @@ zeros-replicate (suc n) = and-both refl (zeros-replicate n)
 -- ---- a whole record
 
 module _ (p : List ℕ) (ok : Proper p) where
-  pub filled-length : length (zeroFilled p) ≡ parts (length p) * 502
-  unfolding zeroFilled
-  filled-length = simp (length-append, length-replicate) (omega (arith, ok .least))
-
   filled-record : take (length p) (zeroFilled p) ≡ p
   unfolding zeroFilled
   filled-record = take-at p _ (length p) refl
@@ -76,11 +67,7 @@ module _ (p : List ℕ) (ok : Proper p) where
       (le-leb _ _ (ok .inside)))
 
   first-data : length (take 502 (zeroFilled p)) ≡ 502
-  first-data = length-take-le 502 (zeroFilled p) (omega (arith, filled-length, ok .least))
-
-  pub blocks-length : (number : ℕ) → length (blocksOf number p) ≡ parts (length p)
-  unfolding blocksOf
-  blocks-length number = from-length number (length p) (parts (length p)) 0 (zeroFilled p)
+  first-data = length-take-le 502 (zeroFilled p) (omega (arith, filled-length p, ok .least))
 
   module _ (number : ℕ) (h₀ : 0 < number) (hnumber : number < 2 ^ 32) (rest : List (List ℕ)) where
     blocks-run : run number (length p) (blocksOf number p ++ rest) ≡ true
@@ -89,8 +76,8 @@ module _ (p : List ℕ) (ok : Proper p) where
         let hn : length p < 65536 = omega (arith, ok .most) in
         and-both (ap not (ne-eqb number 0 (omega arith)))
         (and-both (fitting 3 16387 (length p) (ok .least) (ok .most))
-        (and-both (from-parts number (length p) hnumber hn rest (parts (length p)) 0 (zeroFilled p) filled-length)
-        (rw (from-data number (length p) hnumber hn rest (parts (length p)) 0 (zeroFilled p) filled-length) filled-whole)))
+        (and-both (from-parts number (length p) hnumber hn rest (parts (length p)) 0 (zeroFilled p) (filled-length p))
+        (rw (from-data number (length p) hnumber hn rest (parts (length p)) 0 (zeroFilled p) (filled-length p)) filled-whole)))
 
     first-block : first (blocksOf number p ++ rest) ≡ blockOf number (length p) 0 (take 502 (zeroFilled p))
     unfolding blocksOf
@@ -113,7 +100,7 @@ module _ (p : List ℕ) (ok : Proper p) where
     blocks-data : take (length p) (dataFrom (parts (length p)) (blocksOf number p ++ rest)) ≡ p
     unfolding blocksOf
     blocks-data =
-        rw (from-data number (length p) hnumber (omega (arith, ok .most)) rest (parts (length p)) 0 (zeroFilled p) filled-length) filled-record
+        rw (from-data number (length p) hnumber (omega (arith, ok .most)) rest (parts (length p)) 0 (zeroFilled p) (filled-length p)) filled-record
 
     pub blocks-record : recordFrom (blocksOf number p ++ rest) ≡ p
     unfolding recordFrom
