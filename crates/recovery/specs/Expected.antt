@@ -2,6 +2,7 @@
 -- and lists every other block once as lost" (document 00, demand 3). "'Alone' in demand 3 means in that same room" (document 01, "The deck").
 use mathlib.Core.Bool.{Bool, true, false}
 use mathlib.Core.List.{List, [], _∷_, _++_}
+use mathlib.Core.Path.{_≡_}
 use Prim.Native.Nat.{ℕ, suc, _+_}
 use lib.ListN.{length, take, drop}
 use Rattle.blocks.specs.Record.{parts}
@@ -43,3 +44,20 @@ expected room position number [] bs = []
 expected room position number (s ∷ ss) bs =
     fate (allSound (take (extent s) bs)) room position number s (take (extent s) bs)
     ++ expected room (position + extent s) (suc number) ss (drop (extent s) bs)
+
+-- the same where no block fails its check: each record
+abbrev pub allHandedOut : List ℕ → ℕ → ℕ → List Submitted → List (ℕ × Item)
+allHandedOut room position number [] = []
+allHandedOut room position number (s ∷ ss) =
+    (position, Items.Record (handedOut room number s)) ∷ allHandedOut room (position + extent s) (suc number) ss
+
+-- how many blocks an item takes
+abbrev pub blocksTaken : Item → ℕ
+blocksTaken (Items.Record r) = parts (r .length)
+blocksTaken (Items.Lost loss) = 1
+blocksTaken Items.End = 0
+
+-- the items stand one behind the other, the first at `start`, and the last ends before `end`: each block between belongs to one item
+abbrev pub OneBehindTheOther : ℕ → List (ℕ × Item) → ℕ → Type 0
+OneBehindTheOther start [] end = start ≡ end
+OneBehindTheOther start (item ∷ items) end = (item .0 ≡ start) × OneBehindTheOther (start + blocksTaken (item .1)) items end
