@@ -3,7 +3,7 @@
 --     none-spoiled       where no block was spoiled, every record
 --     each-once          each block belongs to one record that is handed out, or is lost once
 -- Assumes nothing.
-use mathlib.Core.Path.{_≡_, refl, sym, ap, subst, _∙_}
+use mathlib.Core.Path.{_≡_, refl, sym, ap, ap₂, subst, _∙_}
 use mathlib.Core.Bool.{Bool, true, false}
 use mathlib.Core.Logic.{inl}
 use mathlib.Core.List.{List, [], _∷_, _++_}
@@ -15,37 +15,37 @@ use Rattle.writer.specs.Cutting.{blocksOf, joined}
 use Rattle.writer.proofs.Laws.Cutting.{blocks-count}
 use Rattle.reader.specs.Runs.{blocks}
 use Rattle.reader.specs.Events.{Event, lossOf}
-use Rattle.reader.specs.Stepping.{itemOf}
-use Rattle.reader.specs.Walking.{positionOf, itemsOf}
-use Rattle.reader.specs.declared.stepping.Item.{Item}
+use Rattle.reader.specs.Walking.{Handed, handedAt, handedOver, allHandedOver}
+use Rattle.reader.specs.declared.stepping.Record.{Record}
 use Rattle.reader.specs.declared.stepping.Item.the-variants as Items
 use Rattle.reader.proofs.Laws.Walking.{walked}
 use Rattle.recovery.specs.Submitted.{Submitted, octetsOf, Writable, AllWritable, written}
 use Rattle.recovery.specs.Spoiling.{Spoiled, allSound}
 use Rattle.recovery.specs.Expected.{allLost, fate, extent, expected, allHandedOut, blocksTaken, OneBehindTheOther}
 use Rattle.recovery.specs.Statements.{Recovers, NoneSpoiled, EachOnce}
-use Rattle.recovery.proofs.Laws.Taken.{AllProper, all-proper, linted}
+use Rattle.recovery.proofs.Laws.Taken.{AllProper, all-proper, linted, linted-room}
 use Rattle.recovery.proofs.Laws.Recovery.{lostEvents, fateEvents, expectedEvents, spoilt-length, blocks-sound}
 use Rattle.recovery.proofs.Laws.Decks.{written-blocks, deck-spoilt, deck-events}
 
 -- ---- from events to what is handed out
 
 module _ (room : List ℕ) where
-  items-append : (xs ys : List Event) → itemsOf room (xs ++ ys) ≡ itemsOf room xs ++ itemsOf room ys
+  items-append : (xs ys : List Event) → allHandedOver room (xs ++ ys) ≡ allHandedOver room xs ++ allHandedOver room ys
   items-append [] ys = refl
-  items-append (x ∷ xs) ys = ap (λ (items : List (ℕ × Item)). (positionOf x, itemOf room x) ∷ items) (items-append xs ys)
+  items-append (x ∷ xs) ys = ap (λ (later : List Handed). handedOver room x ∷ later) (items-append xs ys)
 
-  items-lost : (position : ℕ) (bs : List (List ℕ)) → itemsOf room (lostEvents position bs) ≡ allLost position bs
+  items-lost : (position : ℕ) (bs : List (List ℕ)) → allHandedOver room (lostEvents position bs) ≡ allLost position bs
   items-lost position [] = refl
-  items-lost position (b ∷ bs) = ap (λ (items : List (ℕ × Item)). (position, Items.Lost (lossOf b)) ∷ items) (items-lost (suc position) bs)
+  items-lost position (b ∷ bs) = ap (λ (later : List Handed). record { position = position; item = Items.Lost (lossOf b); report = [] } ∷ later) (items-lost (suc position) bs)
 
   items-fate : (t : Bool) (position number : ℕ) (s : Submitted) (bs : List (List ℕ)) → Writable s
-      → itemsOf room (fateEvents t position number (octetsOf s) bs) ≡ fate t room position number s bs
-  items-fate true position number s bs w = rw (linted s w number room)
+      → allHandedOver room (fateEvents t position number (octetsOf s) bs) ≡ fate t room position number s bs
+  items-fate true position number s bs w =
+      ap₂ (λ (r : Record) (last : List ℕ). handedAt position (Items.Record r) last ∷ []) (linted s w number room) (linted-room s w room)
   items-fate false position number s bs w = items-lost position bs
 
   items-expected : (ss : List Submitted) (position number : ℕ) (bs : List (List ℕ)) → AllWritable ss
-      → itemsOf room (expectedEvents position number ss bs) ≡ expected room position number ss bs
+      → allHandedOver room (expectedEvents position number ss bs) ≡ expected room position number ss bs
   items-expected [] position number bs w = refl
   items-expected (s ∷ ss) position number bs w =
       items-append
@@ -73,10 +73,10 @@ none-fails room (s ∷ ss) position number h₀ small ok =
 
 -- ---- each block once
 
-behind-append : (xs ys : List (ℕ × Item)) (start middle end : ℕ) → OneBehindTheOther start xs middle → OneBehindTheOther middle ys end
+behind-append : (xs ys : List Handed) (start middle end : ℕ) → OneBehindTheOther start xs middle → OneBehindTheOther middle ys end
     → OneBehindTheOther start (xs ++ ys) end
 behind-append [] ys start middle end h k = subst (λ (m : ℕ). OneBehindTheOther m ys end) (sym h) k
-behind-append (x ∷ xs) ys start middle end h k = (h .0, behind-append xs ys (start + blocksTaken (x .1)) middle end (h .1) k)
+behind-append (x ∷ xs) ys start middle end h k = (h .0, behind-append xs ys (start + blocksTaken (x .item)) middle end (h .1) k)
 
 behind-lost : (position : ℕ) (bs : List (List ℕ)) → OneBehindTheOther position (allLost position bs) (position + length bs)
 behind-lost position [] = omega arith
@@ -122,7 +122,7 @@ each-once ss deck room small w s =
 pub recovers : (ss : List Submitted) → Recovers ss
 recovers ss deck room steps small w s enough =
     walked deck room steps enough
-    ∙ ap (λ (es : List Event). itemsOf room es) (deck-events ss small (all-proper ss w) deck s)
+    ∙ ap (λ (es : List Event). allHandedOver room es) (deck-events ss small (all-proper ss w) deck s)
     ∙ items-expected room ss 0 1 (blocks deck) w
 
 pub none-spoiled : (ss : List Submitted) → NoneSpoiled ss

@@ -1,17 +1,18 @@
 -- What the writer takes is a record, and the linter is given of it what was submitted.
 --     Proper, AllProper      what of a record's octets the reader asks
 --     proper, all-proper     the octets of what the writer takes are such
---     linted                 what the reader hands out of these octets is the record as it was submitted, with the linter's answer to it alone
+--     linted, linted-room    what the reader hands out of these octets is the record as it was submitted, with the linter's answer to it alone
 -- Assumes nothing.
 use mathlib.Core.Path.{_≡_}
 use mathlib.Core.List.{List, [], _∷_}
 use Prim.Native.Nat.{ℕ, _+_, _-_, _≤_}
 use native.Mathlib.Omega.{arith}
 use lib.ListN.{length}
+use Rattle.lint.specs.Answers.{roomOf}
 use Rattle.lint.proofs.Laws.Accepted.{admitted-certificate, admitted-issuer}
 use Rattle.blocks.specs.Record.{certificateLength}
 use Rattle.blocks.proofs.Laws.Record.{record-length, record-profile, record-cut, record-certificate, record-issuer}
-use Rattle.reader.specs.Stepping.{lintedRecord}
+use Rattle.reader.specs.Stepping.{lintedRecord, lintedRoom}
 use Rattle.recovery.specs.Submitted.{Submitted, octetsOf, Writable, AllWritable}
 use Rattle.recovery.specs.Expected.{handedOut}
 
@@ -43,6 +44,15 @@ module _ (s : Submitted) (w : Writable s) where
 
   pub linted : (number : ℕ) (room : List ℕ) → lintedRecord number (octetsOf s) room ≡ handedOut room number s
   linted number room =
+      rw (
+        record-profile (s .profile) (s .certificate) (s .issuer),
+        record-certificate (s .profile) (s .certificate) (s .issuer) certificate-short,
+        record-issuer (s .profile) (s .certificate) (s .issuer) certificate-short,
+      )
+
+  pub linted-room : (room : List ℕ) → lintedRoom (octetsOf s) room ≡ roomOf (s .certificate) (s .issuer) (s .profile) room
+  unfolding lintedRoom
+  linted-room room =
       rw (
         record-profile (s .profile) (s .certificate) (s .issuer),
         record-certificate (s .profile) (s .certificate) (s .issuer) certificate-short,
