@@ -162,14 +162,29 @@ impl Reader {
     }
 
     /// Holds both readers to these events.
-    pub fn hold_events(&mut self, what: &str, reading: Reading, due: &[Event]) {
+    fn hold_events(&mut self, what: &str, reading: Reading, due: &[Event]) {
         self.reference.hold(what, &due, &reading.reference().as_slice(), || reading.shown());
         let due = steps_of(due, &reading);
-        self.hold_steps(what, reading, due);
+        self.hold_proved(what, reading, due);
+    }
+
+    /// Holds both readers to these steps.
+    pub fn hold_steps(&mut self, what: &str, reading: Reading, due: Vec<Outcome>) {
+        let answered = steps_of(&reading.reference(), &reading);
+        self.reference.hold(what, &None, &first_difference(&due, &answered), || reading.shown());
+        self.hold_proved(what, reading, due);
+    }
+
+    /// Holds both readers to lines that were written by hand, and the proved one to the rooms of the reference.
+    pub fn hold_lines(&mut self, what: &str, reading: Reading, due: &[&str]) {
+        let steps = steps_of(&reading.reference(), &reading);
+        let lines: Vec<&str> = steps.iter().map(|step| step.line.as_str()).collect();
+        self.reference.hold(what, &due, &lines.as_slice(), || reading.shown());
+        self.hold_proved(what, reading, steps);
     }
 
     /// Holds the proved reader to these steps, now or when enough decks wait.
-    pub fn hold_steps(&mut self, what: &str, reading: Reading, due: Vec<Outcome>) {
+    fn hold_proved(&mut self, what: &str, reading: Reading, due: Vec<Outcome>) {
         if reading.deck.len() > MOST_OCTETS {
             self.too_long += 1;
             return;
@@ -193,6 +208,24 @@ impl Reader {
             for step in &steps {
                 *self.met.entry(kind_of(step)).or_default() += 1;
             }
+        }
+    }
+
+    /// What the program writes for frames of a reading's kind, with nothing behind them.
+    pub fn written_on(&self, frames: &[&[u8]]) -> Option<Vec<u8>> {
+        let mut input = Vec::new();
+        for octets in frames {
+            Frame::of_kind(READING, octets.to_vec()).write(&mut input);
+        }
+        Some(self.program.as_ref()?.run(&[], &input))
+    }
+
+    /// Asks about what waits, and fails if any deck differed. Single decks are held without a line each.
+    pub fn settle(mut self) {
+        self.ask();
+        self.reference.settle();
+        if self.program.is_some() {
+            self.proved.settle();
         }
     }
 

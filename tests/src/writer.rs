@@ -156,14 +156,13 @@ impl Writer {
         outcomes
     }
 
-    /// What the program writes for frames of a writing's kind whose octets make no call.
-    pub fn written_on(&self, frames: &[&[u8]]) -> Vec<u8> {
-        let Some(program) = &self.program else { return Vec::new() };
+    /// What the program writes for frames of a writing's kind.
+    pub fn written_on(&self, frames: &[&[u8]]) -> Option<Vec<u8>> {
         let mut input = Vec::new();
         for octets in frames {
             Frame::of_kind(WRITING, octets.to_vec()).write(&mut input);
         }
-        program.run(&[], &input)
+        Some(self.program.as_ref()?.run(&[], &input))
     }
 
     /// Says how many calls were compared and how they were answered, and fails if any differed.
