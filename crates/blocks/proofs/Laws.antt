@@ -2,3 +2,6 @@
 pub mod Logic
 pub mod Weigh
 pub mod Check
+pub mod Fill
+pub mod Block
+pub mod Record

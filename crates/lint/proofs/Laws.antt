@@ -4,3 +4,4 @@ pub mod Accepted
 pub mod Table
 pub mod Order
 pub mod Statements
+pub mod Rooms

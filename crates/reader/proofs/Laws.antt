@@ -1,1 +1,9 @@
 -- Laws of the definitions, by file.
+pub mod Steps
+pub mod Places
+pub mod Starts
+pub mod Gathering
+pub mod Stepping
+pub mod Walking
+pub mod Counts
+pub mod Exact

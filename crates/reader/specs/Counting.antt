@@ -3,7 +3,7 @@ use mathlib.Core.List.{List, [], _∷_}
 use Prim.Native.Nat.{ℕ}
 use lib.ListN.{length}
 use Rattle.reader.specs.Events.{Event, record-at, lost-at, events}
-use Rattle.reader.specs.declared.counting.Tally.{Tally}
+use Rattle.reader.specs.declared.counting.Counts.{Counts}
 
 -- the events that hand out a record
 abbrev pub recordsIn : List Event → List Event
@@ -17,5 +17,5 @@ lostIn [] = []
 lostIn (record-at position number p ∷ es) = lostIn es
 lostIn (lost-at position loss ∷ es) = lost-at position loss ∷ lostIn es
 
-unfoldable pub tallyOf : List ℕ → Tally
+unfoldable pub tallyOf : List ℕ → Counts
 tallyOf deck = record { records = length (recordsIn (events deck)); lost = length (lostIn (events deck)) }

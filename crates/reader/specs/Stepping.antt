@@ -6,10 +6,9 @@ use mathlib.Core.Path.{_≡_}
 use Prim.Native.Nat.{ℕ, _*_}
 use lib.Dec.{ltb}
 use lib.ListN.{length}
-use Rattle.blocks.specs.Block.{numberOf}
 use Rattle.blocks.specs.Record.{profileIn, certificateIn, issuerIn}
 use Rattle.lint.specs.Answers.{answerOf, roomOf}
-use Rattle.reader.specs.Runs.{from, first, starts, recordFrom}
+use Rattle.reader.specs.Runs.{from, starts}
 use Rattle.reader.specs.Events.{Event, record-at, lost-at, eventIf}
 use Rattle.reader.specs.declared.stepping.Record.{Record}
 use Rattle.reader.specs.declared.stepping.Item.{Item}
@@ -52,7 +51,7 @@ pub record Stepped (deck : List ℕ) (position : ℕ) (room : List ℕ) (r : Ite
   pub told : r ≡ itemAt deck position room
   pub bytes : last ≡ roomAt deck position room
 
--- the same where a record starts
-pub record Linted (deck : List ℕ) (position : ℕ) (room : List ℕ) (r : Record) (last : List ℕ) : Type 0 where
-  pub told : r ≡ lintedRecord (numberOf (first (from deck position))) (recordFrom (from deck position)) room
-  pub bytes : last ≡ lintedRoom (recordFrom (from deck position)) room
+-- the same of record `number` with octets p
+pub record Linted (number : ℕ) (p room : List ℕ) (r : Record) (last : List ℕ) : Type 0 where
+  pub told : r ≡ lintedRecord number p room
+  pub bytes : last ≡ lintedRoom p room

@@ -7,7 +7,7 @@ ghost use lib.ListN.{length};
 ghost use Rattle.reader.specs.Runs.{blocks};
 ghost use Rattle.reader.specs.Counting.{tallyOf};
 
-pub struct Tally {
+pub struct Counts {
     pub records: usize,
     pub lost: usize,
 }
@@ -19,7 +19,7 @@ pub fn block_count(deck: &[u8]) -> usize
     (deck.len() + 511) / 512
 }
 
-pub fn tally(deck: &[u8]) -> Tally
+pub fn tally(deck: &[u8]) -> Counts
     ensures { λ r. ⌜ r ≡ tallyOf (now (deck .entry)) ⌝ }
 {
     let mut position: usize = 0;
@@ -37,7 +37,10 @@ pub fn tally(deck: &[u8]) -> Tally
                 position += 1;
             }
             Found::End => {
-                return Tally { records: records, lost: lost };
+                return Counts {
+                    records: records,
+                    lost: lost,
+                };
             }
         }
     }

@@ -3,7 +3,7 @@ mod counting;
 mod finding;
 mod stepping;
 
-pub use counting::Tally;
+pub use counting::Counts;
 pub use counting::block_count;
 pub use counting::tally;
 pub use finding::Found;

@@ -6,9 +6,11 @@ use lint::Answer;
 ghost use mathlib.Core.Path.{_≡_};
 ghost use mathlib.Core.List.{_++_};
 ghost use Prim.Native.Nat.{_+_, _*_, _≤_};
-ghost use lib.ListN.{length, drop};
-ghost use Rattle.reader.specs.Runs.{from, dataFrom};
+ghost use lib.ListN.{length, take, drop};
+ghost use Rattle.blocks.specs.Record.{certificateLength};
+ghost use Rattle.reader.specs.Runs.{from, dataFrom, recordFrom};
 ghost use Rattle.reader.specs.Finding.{foundAt};
+ghost use Rattle.reader.specs.declared.finding.Found.the-variants as Found;
 ghost use Rattle.reader.specs.Stepping.{Stepped, Linted};
 
 pub struct Record {
@@ -39,15 +41,13 @@ fn gather(deck: &[u8], position: usize, k: usize, desk: &mut [u8])
     }
 }
 
-// The record of that number and length that starts at the block, with the linter's answer.
-fn lint_record(deck: &[u8], position: usize, number: usize, n: usize, room: &mut [u8]) -> Record
-    requires { ⌜ foundAt (now deck) position ≡ Record number n ⌝ }
-    ensures { λ r. ⌜ Linted (now (deck .entry)) position (now (room .entry)) r (now (room .exit)) ⌝ }
+// The record of n octets at the front of the desk, with the linter's answer.
+fn lint_desk(desk: &[u8], number: usize, n: usize, room: &mut [u8]) -> Record
+    requires { ⌜ (3 + certificateLength (now desk) ≤ n) × (n ≤ length (now desk)) ⌝ }
+    ensures { λ r. ⌜ Linted number (take n (now (desk .entry))) (now (room .entry)) r (now (room .exit)) ⌝ }
 {
-    let mut desk = [0u8; DESK];
-    gather(deck, position, blocks::parts_of(n), &mut desk);
-    let profile = desk[0];
-    let cut = 3 + octets::pair(&desk, 1);
+    let profile = octets::octet(desk, 0);
+    let cut = 3 + octets::pair(desk, 1);
     let answer = lint::lint(&desk[3..cut], &desk[cut..n], profile, room);
     Record {
         number: number,
@@ -55,6 +55,16 @@ fn lint_record(deck: &[u8], position: usize, number: usize, n: usize, room: &mut
         length: n,
         answer: answer,
     }
+}
+
+// The record of that number and length that starts at the block, with the linter's answer.
+fn lint_record(deck: &[u8], position: usize, number: usize, n: usize, room: &mut [u8]) -> Record
+    requires { ⌜ foundAt (now deck) position ≡ Found.Record number n ⌝ }
+    ensures { λ r. ⌜ Linted number (recordFrom (from (now (deck .entry)) position)) (now (room .entry)) r (now (room .exit)) ⌝ }
+{
+    let mut desk = [0u8; DESK];
+    gather(deck, position, blocks::parts_of(n), &mut desk);
+    lint_desk(&desk, number, n, room)
 }
 
 pub fn step(deck: &[u8], position: usize, room: &mut [u8]) -> Item

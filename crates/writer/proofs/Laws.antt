@@ -1,1 +1,6 @@
 -- Laws of the definitions, by file.
+pub mod Cutting
+pub mod Rooms
+pub mod Desk
+pub mod Answers
+pub mod Statements

@@ -83,7 +83,14 @@ fn put_blocks(number: u32, n: usize, count: usize, desk: &[u8], room: &mut [u8])
 }
 
 // Writes the record's blocks, `count` of them, to the front of the room.
-fn put_record(number: u32, profile: u8, certificate: &[u8], issuer: &[u8], count: usize, room: &mut [u8])
+fn put_record(
+    number: u32,
+    profile: u8,
+    certificate: &[u8],
+    issuer: &[u8],
+    count: usize,
+    room: &mut [u8],
+)
     requires { ⌜ (length (now certificate) ≤ 8192) × (length (now issuer) ≤ 8192) × (count ≡ parts (length (recordOf profile (now certificate) (now issuer)))) × (512 * count ≤ length (now room)) ⌝ }
     ensures { λ _. ⌜ now (room .exit) ≡ joined (blocksOf number (recordOf profile (now (certificate .entry)) (now (issuer .entry)))) ++ drop (512 * count) (now (room .entry)) ⌝ }
 {
@@ -93,7 +100,13 @@ fn put_record(number: u32, profile: u8, certificate: &[u8], issuer: &[u8], count
     put_blocks(number, n, count, &desk, room);
 }
 
-pub fn write_record(number: u32, profile: u8, certificate: &[u8], issuer: &[u8], room: &mut [u8]) -> Answer
+pub fn write_record(
+    number: u32,
+    profile: u8,
+    certificate: &[u8],
+    issuer: &[u8],
+    room: &mut [u8],
+) -> Answer
     ensures { λ r. ⌜ Written number profile (now (certificate .entry)) (now (issuer .entry)) (now (room .entry)) r (now (room .exit)) ⌝ }
 {
     let admission = lint::admit(certificate.len(), issuer.len(), profile);

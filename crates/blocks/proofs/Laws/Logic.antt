@@ -1,11 +1,22 @@
--- Small laws of tests that are joined. Assumes nothing.
+-- Tests that are joined.
+--     and-same                            joined as the code joins them
+--     and-both, and-left, and-right       both pass exactly if the joined test does
+--     and-passed, and-not-left, and-not-right     one passes, or fails
+--     fits, fitting                       a number between two others
+--     true-or-false, not-true, below-or-not       cases
+-- Assumes nothing.
 use mathlib.Core.Path.{_≡_, refl}
-use mathlib.Core.Bool.{Bool, true, false, true≢false}
+use mathlib.Core.Bool.{Bool, true, false, true≢false, _&&_}
 use mathlib.Core.Logic.{_⊎_, inl, inr}
 use Prim.Native.Nat.{ℕ, _≤_, _<_}
 use lib.Dec.{ltb}
 use borrow.Author.Tests.{ltb-true, ltb-false, leb-true, le-leb}
 use Rattle.blocks.specs.Tests.{_and_, between}
+
+pub and-same : (a b : Bool) → (a && b) ≡ (a and b)
+unfolding _and_
+and-same true b = refl
+and-same false b = refl
 
 pub and-both : {a b : Bool} → a ≡ true → b ≡ true → (a and b) ≡ true
 unfolding _and_

@@ -1,4 +1,7 @@
--- Laws of the weighted sum that the check is made of. Assumes nothing.
+-- The weighted sum that the check is made of.
+--     weigh-snoc, weigh-take     one octet more at the end
+--     weigh-set                  another octet at a place
+-- Assumes nothing.
 use mathlib.Core.Path.{_≡_}
 use mathlib.Core.List.{List, [], _∷_, _++_}
 use Prim.Native.Nat.{ℕ, zero, suc, _+_, _*_, _<_}

@@ -1,4 +1,5 @@
 -- What is known of a certificate that is accepted: none of refusals 1 to 6 applies to it.
+--     admitted-certificate, admitted-issuer     a side that was admitted has 1 to 8,192 octets
 --     accepted-fits      it is of RFC 5280's grammar
 --     accepted-short     it has at most 8,192 octets
 -- Assumes nothing.
@@ -10,7 +11,7 @@ use native.Mathlib.Omega.{arith}
 use lib.Dec.{leb}
 use lib.ListN.{length}
 use borrow.Author.Tests.{leb-true}
-use Rattle.octets.proofs.Laws.Tests.{and-r}
+use Rattle.octets.proofs.Laws.Tests.{and-l, and-r}
 use Rattle.der.specs.Soundness.{derSoundness}
 use Rattle.der.specs.declared.walk.Soundness.{Soundness}
 use Rattle.der.specs.declared.walk.Soundness.the-variants.{Sound, Unsound, Unordered}
@@ -35,6 +36,18 @@ refused r p e =
 passed : (b : Bool) (j : Judgement) (r : Refusal) (p : Profile) → cond b j (Refused r) ≡ Accepted p → (b ≡ true) × (j ≡ Accepted p)
 passed true j r p e = (refl, e)
 passed false j r p e = absurd (refused r p e)
+
+sized : (n : ℕ) → lengthOk n ≡ true → (1 ≤ n) × (n ≤ 8192)
+sized n t = (leb-true 1 n (and-l (leb 1 n) (leb n 8192) t), leb-true n 8192 (and-r (leb 1 n) (leb n 8192) t))
+
+module _ (certificate issuer profile : ℕ) (p : Profile) (e : admissionOf certificate issuer profile ≡ Accepted p) where
+  pub admitted-certificate : (1 ≤ certificate) × (certificate ≤ 8192)
+  unfolding admissionOf
+  admitted-certificate = sized certificate (passed (lengthOk certificate) _ _ p e .0)
+
+  pub admitted-issuer : (1 ≤ issuer) × (issuer ≤ 8192)
+  unfolding admissionOf
+  admitted-issuer = sized issuer (passed (lengthOk issuer) _ _ p (passed (lengthOk certificate) _ _ p e .1) .0)
 
 verdict-fits : (q p : Profile) (side : Side) (v : Verdict) → byVerdict q side v ≡ Accepted p → v ≡ Fits
 verdict-fits q p side Fits e = refl
@@ -68,7 +81,7 @@ module _ (s issuer : List ℕ) (profile : ℕ) (p : Profile) (e : judgementOf s 
   accepted-fits = admitted (admissionOf (length s) (length issuer) profile) p s issuer e .2
 
   pub accepted-short : length s ≤ 8192
-  unfolding judgementOf admissionOf
+  unfolding judgementOf
   accepted-short =
       let a = admitted (admissionOf (length s) (length issuer) profile) p s issuer e in
-      leb-true (length s) 8192 (and-r (leb 1 (length s)) (leb (length s) 8192) (passed (lengthOk (length s)) _ _ (a .0) (a .1) .0))
+      admitted-certificate (length s) (length issuer) profile (a .0) (a .1) .1

@@ -33,7 +33,10 @@ shared-slice-read-sum : tie.Need-shared-slice-read-sum Inv-loop μ-loop
 shared-slice-read-sum c = omega arith
 
 cast-sum : tie.Need-cast-sum Inv-loop μ-loop
-cast-sum c = omega (arith, c .shared-slice-known .given (c .before .before .loop .i))
+cast-sum c = omega arith
+
+cast-sum-2 : tie.Need-cast-sum-2 Inv-loop μ-loop
+cast-sum-2 c = omega (arith, c .shared-slice-known .given (c .before .before .loop .i))
 
 mul-sum : tie.Need-mul-sum Inv-loop μ-loop
 mul-sum c = omega (arith, small c)
@@ -61,7 +64,7 @@ unfolding checkOf
 returns c =
     let body = c .before .before .args .body .now in
     let all : take (c .before .loop .i) body ≡ body = take-all (c .before .loop .i) body (omega arith) in
-    ap (λ (n : ℕ). n % 65521) (rw all at (c .before .loop .inv .1))
+    (ap (λ (n : ℕ). n % 65521) (rw all at (c .before .loop .inv .1)), omega arith)
 
 pub check-body-spec : {M : Type 1} → statement M
 check-body-spec =
@@ -70,9 +73,10 @@ check-body-spec =
     Inv-loop
     μ-loop
     loop-holds
+    cast-sum
     add-sum
     shared-slice-read-sum
-    cast-sum
+    cast-sum-2
     mul-sum
     add-sum-2
     add-i

@@ -1,21 +1,27 @@
+-- `blocks::check::check_of` meets its contract: 510 octets or fewer are taken. Assumes nothing.
+use mathlib.Core.Path.{_≡_}
+use Prim.Native.Nat.{_<_}
+use native.Mathlib.Omega.{arith}
+use lib.ListN.{length, take, length-take}
+use lib.Seq.{take-all}
 use borrow.Author.Needs.{needs}
+use Rattle.blocks.specs.Block.{checkOf}
 use Rattle.blocks.proofs.check.check_of.Statement.{statement}
 use Rattle.blocks.proofs.check.check_of.Tie as tie
-use Rattle.blocks.proofs.check.check_of.Reads as reads
-use Rattle.blocks.proofs.check.check_of.Lts as lts
-use Rattle.blocks.proofs.check.check_body.Reads as check-body-reads
 
 check-body-requires : tie.Need-check-body-requires
 check-body-requires c κs = search needs
 
 returns : tie.Need-returns
-returns c = ?
+returns c =
+    let b = c .before .before .before .args .block .now in
+    rw (take-all 510 b (omega arith)) (c .check-body .ensures)
 
 slice-aggregate-check-body : tie.Need-slice-aggregate-check-body
-slice-aggregate-check-body c = ?
+slice-aggregate-check-body c = simp length-take (omega arith)
 
 check-body-requires-2 : tie.Need-check-body-requires-2
-check-body-requires-2 c κs = ?
+check-body-requires-2 c κs = simp length-take (omega arith)
 
 returns-2 : tie.Need-returns-2
 returns-2 c = search needs

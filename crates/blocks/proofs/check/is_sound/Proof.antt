@@ -1,13 +1,14 @@
+-- `blocks::check::is_sound` meets its contract. Assumes nothing.
 use borrow.Author.Needs.{needs}
+use borrow.Author.Tests.{eq-eqb, ne-eqb}
+use Rattle.blocks.specs.Tests.{_and_}
+use Rattle.blocks.specs.Block.{sound}
 use Rattle.blocks.proofs.check.is_sound.Statement.{statement}
 use Rattle.blocks.proofs.check.is_sound.Tie as tie
-use Rattle.blocks.proofs.check.is_sound.Reads as reads
-use Rattle.blocks.proofs.check.is_sound.Lts as lts
-use Rattle.blocks.proofs.check.check_of.Reads as check-of-reads
-use Rattle.octets.proofs.pair.Reads as pair-reads
 
 returns : tie.Need-returns
-returns c = ?
+unfolding sound _and_
+returns c = rw (ne-eqb _ 512 (c .if1 .taken))
 
 check-of-requires : tie.Need-check-of-requires
 check-of-requires c κs = search needs
@@ -16,7 +17,8 @@ pair-requires : tie.Need-pair-requires
 pair-requires c κs = search needs
 
 returns-2 : tie.Need-returns-2
-returns-2 c = ?
+unfolding sound _and_
+returns-2 c = rw (eq-eqb _ 512 (c .before .before .if1 .left), c .before .check-of .ensures .0, c .pair .ensures .0)
 
 pub is-sound-spec : {M : Type 1} → statement M
 is-sound-spec = tie.close (tie.spec returns check-of-requires pair-requires returns-2)

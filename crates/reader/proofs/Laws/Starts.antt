@@ -1,0 +1,288 @@
+-- Where a record starts, in terms of the deck's octets.
+--     block-whole                            a sound block has its 512 octets in the deck
+--     part-by, unsound-no-part               one part, by the tests of its block
+--     parts-next, parts-done, parts-within   the parts of a run from one on; all of them lie in the deck
+--     last-fill                              the fill of a record is that of its last block
+--     certificate-at                         the certificate's length stands in the first block
+--     bad-head, good-length, bad-parts, good-parts, whole-by     a run, test after test as the code makes them
+--     starts-by                              a run, by the fields of its first block
+--     block-inside, block-none               a block is empty exactly past the deck's end
+--     found-by, found-none                   what is found before the deck's end, and past it
+--     found-record, found-lost               the same, where a run starts and where not
+--     loss-short, loss-whole                 why a block is lost
+--     run-within                             a run lies in the deck
+--     Start, start-of                        all that is known where a record is found
+-- Assumes nothing.
+use mathlib.Core.Path.{_≡_, refl, sym, ap, ap₂, _∙_}
+use mathlib.Core.Bool.{Bool, true, false, not, _&&_, _||_, true≢false, false≢true}
+use mathlib.Core.Logic.{⊎-elim}
+use mathlib.Core.List.{List, [], _∷_, _++_, append-nil}
+use Prim.Native.Nat.{ℕ, zero, suc, _+_, _-_, _*_, _≤_, _<_}
+use native.Mathlib.Nat.{not-suc-le-zero}
+use native.Mathlib.Omega.{arith}
+use lib.ListN.{length, getD, take, drop, length-take, length-drop, List·getD-append}
+use lib.Seq.{drop-nil, drop-append-add, getD-take, getD-drop, length-take-le}
+use lib.Dec.{eqb, leb}
+use borrow.Author.Tests.{lt-ltb, le-ltb, leb-true}
+use Rattle.octets.specs.Numbers.{pairAt}
+use Rattle.blocks.specs.Tests.{_and_}
+use Rattle.blocks.specs.Block.{sound, numberOf, lengthOf, partOf, isClear, dataOf}
+use Rattle.blocks.specs.Record.{isRecordLength, parts, zeros, certificateLength}
+use Rattle.reader.specs.Runs.{blocks, blockAt, from, isPart, areParts, dataFrom, isWhole, run, first, starts}
+use Rattle.reader.specs.Events.{lossIf, lossOf}
+use Rattle.reader.specs.Finding.{foundIf, foundAt}
+use Rattle.reader.specs.declared.finding.Loss.the-variants.{Short}
+use Rattle.reader.specs.declared.finding.Found.{Found}
+use Rattle.reader.specs.declared.finding.Found.the-variants.{Record, Lost, End}
+use Rattle.blocks.proofs.Laws.Logic.{and-same, and-left, and-right, and-passed, and-not-left, not-true, fits, true-or-false, below-or-not}
+use Rattle.blocks.proofs.Laws.Check.{sound-length}
+use Rattle.reader.proofs.Laws.Steps.{some-parts, run-sound, part-sound}
+use Rattle.reader.proofs.Laws.Places.{first-is, from-cons, from-nil, block-long, parts-step}
+
+-- ---- sound blocks
+
+pub block-whole : (d : List ℕ) (i : ℕ) → sound (blockAt d i) ≡ true → 512 * i + 512 ≤ length d
+block-whole d i s =
+    let h = simp (length-take, length-drop) at (sound-length (blockAt d i) s) in
+    omega arith
+
+-- the block j of those from i on
+later-block : (d : List ℕ) (i j : ℕ) → getD (from d i) j [] ≡ first (from d (i + j))
+later-block d i j =
+    let e : i + j ≡ i + j + 0 = omega arith in
+    getD-drop i (blocks d) j [] ∙ ap (λ (m : ℕ). getD (blocks d) m []) e ∙ sym (getD-drop (i + j) (blocks d) 0 [])
+
+data-long : (b : List ℕ) → sound b ≡ true → length (dataOf b) ≡ 502
+data-long b s = length-take-le 502 (drop 8 b) (simp length-drop (omega (arith, sound-length b s)))
+
+-- ---- one part, as the code joins its tests
+
+four-tests : (p q r t : Bool) → (p and (q and (r and t))) ≡ (p && q && r && t)
+unfolding _and_
+four-tests true true r t = sym (and-same r t)
+four-tests true false r t = refl
+four-tests false q r t = refl
+
+pub part-by : (number n j : ℕ) (b : List ℕ) → sound b ≡ true
+    → isPart number n j b ≡ (eqb (numberOf b) number && eqb (lengthOf b) n && eqb (partOf b) j && isClear b)
+unfolding isPart
+part-by number n j b s = and-passed _ s ∙ four-tests (eqb (numberOf b) number) (eqb (lengthOf b) n) (eqb (partOf b) j) (isClear b)
+
+pub unsound-no-part : (number n j : ℕ) (b : List ℕ) → sound b ≡ false → isPart number n j b ≡ false
+unfolding isPart
+unsound-no-part number n j b s = and-not-left _ s
+
+-- ---- the parts of a run, from j on of k: one more, or none left
+
+pub parts-next : (number n j k : ℕ) (d : List ℕ) (i : ℕ) → j < k → 512 * (i + j) ≤ length d
+    → areParts number n j (k - j) (from d (i + j)) ≡ (isPart number n j (blockAt d (i + j)) and areParts number n (j + 1) (k - (j + 1)) (from d (i + (j + 1))))
+parts-next number n j k d i h l =
+    let e₁ : k - j ≡ suc (k - (j + 1)) = omega arith in
+    let e₂ : suc j ≡ j + 1 = omega arith in
+    let e₃ : suc (i + j) ≡ i + (j + 1) = omega arith in
+    ap (λ (m : ℕ). areParts number n j m (from d (i + j))) e₁
+    ∙ parts-step number n j (k - (j + 1)) d (i + j) l
+    ∙ ap₂ (λ (a c : ℕ). isPart number n j (blockAt d (i + j)) and areParts number n a (k - (j + 1)) (from d c)) e₂ e₃
+
+pub parts-done : (number n j k : ℕ) (bs : List (List ℕ)) → k ≤ j → areParts number n j (k - j) bs ≡ true
+parts-done number n j k bs h =
+    let e : k - j ≡ 0 = omega arith in
+    ap (λ (m : ℕ). areParts number n j m bs) e
+
+pub parts-within : (number n j k : ℕ) (d : List ℕ) (i : ℕ) → areParts number n j k (from d i) ≡ true → 512 * i ≤ length d → 512 * (i + k) ≤ length d
+parts-within number n j zero d i t h = omega arith
+parts-within number n j (suc k) d i t h =
+    let both : (isPart number n j (blockAt d i) and areParts number n (suc j) k (from d (suc i))) ≡ true = sym (parts-step number n j k d i h) ∙ t in
+    let whole : 512 * i + 512 ≤ length d = block-whole d i (part-sound number n j (blockAt d i) (and-left _ _ both)) in
+    omega (arith, parts-within number n (suc j) k d (suc i) (and-right _ _ both) (omega arith))
+
+-- ---- the data of a run
+
+-- the data of the last part
+data-last : (number n j k : ℕ) (bs : List (List ℕ)) → areParts number n j (suc k) bs ≡ true → (m : ℕ)
+    → drop (k * 502 + m) (dataFrom (suc k) bs) ≡ drop m (dataOf (getD bs k []))
+data-last number n j k [] t m = absurd (false≢true t)
+data-last number n j zero (b ∷ bs) t m =
+    let e : 0 * 502 + m ≡ m = omega arith in
+    ap₂ (λ (x : ℕ) (l : List ℕ). drop x l) e (append-nil (dataOf b))
+data-last number n j (suc k) (b ∷ bs) t m =
+    let e : suc k * 502 + m ≡ length (dataOf b) + (k * 502 + m) = omega (arith, data-long b (part-sound number n j b (and-left _ _ t))) in
+    ap (λ (x : ℕ). drop x (dataOf b ++ dataFrom (suc k) bs)) e
+    ∙ drop-append-add (dataOf b) (dataFrom (suc k) bs) (k * 502 + m)
+    ∙ data-last number n (suc j) k bs (and-right _ _ t) m
+
+-- "last zero-filled": all of a record's fill stands in its last block
+pub last-fill : (number n k : ℕ) (d : List ℕ) (i : ℕ) → areParts number n 0 k (from d i) ≡ true → 512 * i ≤ length d → 0 < k → 502 * (k - 1) ≤ n
+    → zeros (drop n (dataFrom k (from d i))) ≡ zeros (drop (n - 502 * (k - 1)) (dataOf (blockAt d (i + (k - 1)))))
+last-fill number n k d i t h l m =
+    let e : k ≡ suc (k - 1) = omega arith in
+    let rest : n ≡ (k - 1) * 502 + (n - 502 * (k - 1)) = omega arith in
+    let inside : 512 * (i + (k - 1)) < length d = omega (arith, parts-within number n 0 k d i t h) in
+    ap₂ (λ (x y : ℕ). zeros (drop x (dataFrom y (from d i)))) rest e
+    ∙ ap zeros (data-last number n 0 (k - 1) (from d i) (ap (λ (y : ℕ). areParts number n 0 y (from d i)) (sym e) ∙ t) (n - 502 * (k - 1)))
+    ∙ ap (λ (b : List ℕ). zeros (drop (n - 502 * (k - 1)) (dataOf b))) (later-block d i (k - 1) ∙ first-is d (i + (k - 1)) inside)
+
+-- octets 1 and 2 of a record stand at 9 and 10 of its first block
+pub certificate-at : (k : ℕ) (d : List ℕ) (i : ℕ) → 0 < k → 512 * (i + k) ≤ length d
+    → certificateLength (dataFrom k (from d i)) ≡ pairAt (blockAt d i) 9
+certificate-at zero d i l h = absurd (not-suc-le-zero l)
+certificate-at (suc k) d i l h =
+    rw (from-cons d i (omega arith), at 1 (omega arith), at 2 (omega arith))
+  where
+    long : length (dataOf (blockAt d i)) ≡ 502
+    long = length-take-le 502 (drop 8 (blockAt d i)) (simp length-drop (omega (arith, block-long d i (omega arith))))
+
+    at : (x : ℕ) → x < 502 → getD (dataOf (blockAt d i) ++ dataFrom k (from d (suc i))) x 0 ≡ getD (blockAt d i) (8 + x) 0
+    at x s =
+        List·getD-append (dataOf (blockAt d i)) (dataFrom k (from d (suc i))) 0 x (omega (arith, long))
+        ∙ getD-take 502 (drop 8 (blockAt d i)) x 0 s ∙ getD-drop 8 (blockAt d i) x 0
+
+-- ---- runs
+
+-- its first two tests, of the number and of the length, as the code joins them: one fails, or both pass
+head-fails : (zero-number long rest : Bool) → (zero-number || not long) ≡ true → (not zero-number and (long and rest)) ≡ false
+unfolding _and_
+head-fails true long rest t = refl
+head-fails false true rest t = absurd (false≢true t)
+head-fails false false rest t = refl
+
+head-passes : (zero-number long rest : Bool) → (zero-number || not long) ≡ false → (not zero-number and (long and rest)) ≡ rest
+unfolding _and_
+head-passes true long rest f = absurd (true≢false f)
+head-passes false true rest f = refl
+head-passes false false rest f = absurd (true≢false f)
+
+length-passes : (zero-number long : Bool) → (zero-number || not long) ≡ false → long ≡ true
+length-passes true long f = absurd (true≢false f)
+length-passes false true f = refl
+length-passes false false f = absurd (true≢false f)
+
+module _ (number n : ℕ) (bs : List (List ℕ)) where
+  pub bad-head : (eqb number 0 || not (isRecordLength n)) ≡ true → run number n bs ≡ false
+  unfolding run
+  bad-head t = head-fails (eqb number 0) (isRecordLength n) _ t
+
+  module _ (f : (eqb number 0 || not (isRecordLength n)) ≡ false) where
+    pub good-length : (3 ≤ n) × (n ≤ 16387)
+    good-length = fits 3 16387 n (length-passes (eqb number 0) (isRecordLength n) f)
+
+    pub bad-parts : areParts number n 0 (parts n) bs ≡ false → run number n bs ≡ false
+    unfolding run
+    bad-parts p = head-passes (eqb number 0) (isRecordLength n) _ f ∙ and-not-left _ p
+
+    pub good-parts : areParts number n 0 (parts n) bs ≡ true → run number n bs ≡ isWhole n (dataFrom (parts n) bs)
+    unfolding run
+    good-parts p = head-passes (eqb number 0) (isRecordLength n) _ f ∙ and-passed _ p
+
+-- the last test, as the code joins it: of the fill by the last block, of the certificate's length by the first
+pub whole-by : (number n k : ℕ) (d : List ℕ) (i : ℕ) → areParts number n 0 k (from d i) ≡ true → 512 * i ≤ length d → 0 < k → 502 * (k - 1) ≤ n
+    → isWhole n (dataFrom k (from d i)) ≡ (zeros (drop (n - 502 * (k - 1)) (dataOf (blockAt d (i + (k - 1))))) && leb (pairAt (blockAt d i) 9) (n - 3))
+unfolding isWhole
+whole-by number n k d i t h l m =
+    ap₂ _and_ (last-fill number n k d i t h l m) (ap (λ (x : ℕ). leb x (n - 3)) (certificate-at k d i l (parts-within number n 0 k d i t h)))
+    ∙ sym (and-same _ _)
+
+-- whether a run starts at a block, by that block's fields
+pub starts-by : (d : List ℕ) (i number n : ℕ) → 512 * i < length d → numberOf (blockAt d i) ≡ number → lengthOf (blockAt d i) ≡ n
+    → starts (from d i) ≡ run number n (from d i)
+unfolding starts
+starts-by d i number n h p q =
+    ap₂ (λ (a c : ℕ). run a c (from d i)) (ap numberOf (first-is d i h) ∙ p) (ap lengthOf (first-is d i h) ∙ q)
+
+-- ---- what is found
+
+pub found-by : (d : List ℕ) (i : ℕ) → 512 * i < length d → foundAt d i ≡ foundIf (starts (from d i)) (blockAt d i ∷ from d (suc i))
+unfolding foundAt
+found-by d i h = rw (lt-ltb _ _ h) (ap (λ (bs : List (List ℕ)). foundIf (starts (from d i)) bs) (from-cons d i h))
+
+pub found-none : (d : List ℕ) (i : ℕ) → length d ≤ 512 * i → foundAt d i ≡ End
+unfolding foundAt
+found-none d i h = rw (le-ltb _ _ h)
+
+pub found-record : (d : List ℕ) (i : ℕ) → 512 * i < length d → starts (from d i) ≡ true
+    → foundAt d i ≡ Record (numberOf (blockAt d i)) (lengthOf (blockAt d i))
+found-record d i h t = found-by d i h ∙ simp t
+
+pub found-lost : (d : List ℕ) (i : ℕ) → 512 * i < length d → starts (from d i) ≡ false → foundAt d i ≡ Lost (lossOf (blockAt d i))
+found-lost d i h f = found-by d i h ∙ simp f
+
+pub block-inside : (d : List ℕ) (i : ℕ) → (length (blockAt d i) ≡ 0 → ⊥) → 512 * i < length d
+block-inside d i h = omega (arith, length-take 512 (drop (512 * i) d), length-drop (512 * i) d)
+
+pub block-none : (d : List ℕ) (i : ℕ) → length (blockAt d i) ≡ 0 → length d ≤ 512 * i
+block-none d i h = omega (arith, length-take 512 (drop (512 * i) d), length-drop (512 * i) d)
+
+-- why a block is lost, short or whole
+pub loss-short : (b : List ℕ) → length b < 512 → lossOf b ≡ Short
+unfolding lossOf
+loss-short b h = rw (lt-ltb (length b) 512 h)
+
+pub loss-whole : (b : List ℕ) → 512 ≤ length b → lossOf b ≡ lossIf false (sound b)
+unfolding lossOf
+loss-whole b h = rw (le-ltb (length b) 512 h)
+
+-- all that is known where a record is found
+pub record Start (d : List ℕ) (i number n : ℕ) : Type 0 where
+  pub begins : starts (from d i) ≡ true
+  pub number-is : number ≡ numberOf (first (from d i))
+  pub length-is : n ≡ lengthOf (first (from d i))
+  pub inside : 512 * i < length d
+  pub whole : 512 * (i + parts n) ≤ length d
+  pub least : 3 ≤ n
+  pub most : n ≤ 16387
+  pub fitted : certificateLength (dataFrom (parts n) (from d i)) ≤ n - 3
+
+-- the fields of what was found
+numberIn : Found → ℕ
+numberIn (Record number n) = number
+numberIn (Lost loss) = 0
+numberIn End = 0
+
+lengthIn : Found → ℕ
+lengthIn (Record number n) = n
+lengthIn (Lost loss) = 0
+lengthIn End = 0
+
+module _ (d : List ℕ) (i : ℕ) (t : starts (from d i) ≡ true) where
+  run-length : (3 ≤ lengthOf (first (from d i))) × (lengthOf (first (from d i)) ≤ 16387)
+  unfolding starts run
+  run-length = fits 3 16387 (lengthOf (first (from d i))) (and-left _ _ (and-right _ _ t))
+
+  pub run-within : 512 * i < length d → 512 * (i + parts (lengthOf (first (from d i)))) ≤ length d
+  unfolding starts run
+  run-within h =
+      parts-within (numberOf (first (from d i))) (lengthOf (first (from d i))) 0 (parts (lengthOf (first (from d i)))) d i
+      (and-left _ _ (and-right _ _ (and-right _ _ t))) (omega arith)
+
+  run-fitted : certificateLength (dataFrom (parts (lengthOf (first (from d i)))) (from d i)) ≤ lengthOf (first (from d i)) - 3
+  unfolding starts run isWhole
+  run-fitted = leb-true _ _ (and-right _ _ (and-right _ _ (and-right _ _ (and-right _ _ t))))
+
+  starting : 512 * i < length d → Start d i (numberOf (first (from d i))) (lengthOf (first (from d i)))
+  starting h =
+      record {
+        begins = t;
+        number-is = refl;
+        length-is = refl;
+        inside = h;
+        whole = run-within h;
+        least = run-length .0;
+        most = run-length .1;
+        fitted = run-fitted;
+      }
+
+pub start-of : (d : List ℕ) (i number n : ℕ) → foundAt d i ≡ Record number n → Start d i number n
+unfolding foundAt numberIn lengthIn
+start-of d i number n e =
+    ⊎-elim
+    (λ (h : 512 * i < length d).
+    let found : foundIf (starts (from d i)) (from d i) ≡ Record number n = rw (lt-ltb (512 * i) (length d) h) at e in
+    ⊎-elim
+    (λ (t : starts (from d i) ≡ true).
+    let same : Record (numberOf (first (from d i))) (lengthOf (first (from d i))) ≡ Record number n = rw t at found in
+    rw (← ap numberIn same, ← ap lengthIn same) (starting d i t h))
+    (λ (f : starts (from d i) ≡ false).
+    absurd (let z : _≡_ {A = ℕ} 0 1 = (let other = rw f at found in cc) in omega arith))
+    (true-or-false (starts (from d i))))
+    (λ (h : length d ≤ 512 * i). absurd (let z : _≡_ {A = ℕ} 0 1 = (let other = rw (le-ltb (512 * i) (length d) h) at e in cc) in omega arith))
+    (below-or-not (512 * i) (length d))

@@ -1,0 +1,116 @@
+-- Stepping through a whole deck, the same room lent again at each step.
+--     walked     it hands out the events of the deck, each as in the room at the start
+-- Assumes nothing.
+use mathlib.Core.Path.{_≡_, refl, sym, ap, ap₂, _∙_}
+use mathlib.Core.Bool.{Bool, true, false}
+use mathlib.Core.Logic.{⊎-elim}
+use mathlib.Core.List.{List, [], _∷_}
+use Prim.Native.Nat.{ℕ, zero, suc, _+_, _*_, _≤_, _<_}
+use native.Mathlib.Omega.{arith}
+use lib.ListN.{length, drop, drop-of-length-le}
+use lib.Seq.{drop-drop}
+use borrow.Author.Tests.{lt-ltb, le-ltb}
+use Rattle.blocks.specs.Block.{lengthOf}
+use Rattle.blocks.specs.Record.{parts, profileIn, certificateIn, issuerIn}
+use Rattle.blocks.proofs.Laws.Logic.{below-or-not}
+use Rattle.lint.proofs.Laws.Rooms.{answer-room, room-long}
+use Rattle.lint.specs.declared.linting.Answer.{Answer}
+use Rattle.reader.specs.Runs.{blocks, from, blockAt, first, starts}
+use Rattle.reader.specs.Events.{Event, record-at, lost-at, lossOf, eventIf, reading, events}
+use Rattle.reader.specs.Finding.{foundIf, foundAt, blocksIn}
+use Rattle.reader.specs.Stepping.{lintedRecord, lintedRoom, itemOf, roomAfter, eventAt, itemAt, roomAt}
+use Rattle.reader.specs.Walking.{unlessEnd, walk, positionOf, itemsOf}
+use Rattle.reader.specs.declared.stepping.Item.{Item}
+use Rattle.reader.specs.declared.stepping.Item.the-variants as Items
+use Rattle.reader.proofs.Laws.Steps.{some-parts, past-record, past-lost}
+use Rattle.reader.proofs.Laws.Places.{from-cons, from-nil}
+
+-- ---- an event is handed out
+
+item-room : (room other : List ℕ) → length room ≡ length other → (e : Event) → itemOf room e ≡ itemOf other e
+item-room room other h (record-at position number p) =
+    ap (λ (a : Answer). Items.Record (record { number = number; profile = profileIn p; length = length p; answer = a }))
+    (answer-room (certificateIn p) (issuerIn p) room (profileIn p) other h)
+item-room room other h (lost-at position loss) = refl
+
+after-long : (room : List ℕ) (e : Event) → length (roomAfter room e) ≡ length room
+unfolding lintedRoom
+after-long room (record-at position number p) = room-long (certificateIn p) (issuerIn p) room (profileIn p)
+after-long room (lost-at position loss) = refl
+
+no-end : (position : ℕ) (room : List ℕ) (e : Event) (later : List (ℕ × Item)) → unlessEnd position (itemOf room e) later ≡ (position, itemOf room e) ∷ later
+no-end position room (record-at at number p) later = refl
+no-end position room (lost-at at loss) later = refl
+
+event-stands : (t : Bool) (position : ℕ) (bs : List (List ℕ)) → positionOf (eventIf t position bs) ≡ position
+event-stands true position bs = refl
+event-stands false position bs = refl
+
+-- ---- a step
+
+module _ (d : List ℕ) (i : ℕ) where
+  ended : (room : List ℕ) → length d ≤ 512 * i → itemAt d i room ≡ Items.End
+  unfolding itemAt
+  ended room h = rw (le-ltb _ _ h)
+
+  module _ (h : 512 * i < length d) where
+    item-is : (room : List ℕ) → itemAt d i room ≡ itemOf room (eventAt d i)
+    unfolding itemAt
+    item-is room = rw (lt-ltb _ _ h)
+
+    room-is : (room : List ℕ) → roomAt d i room ≡ roomAfter room (eventAt d i)
+    unfolding roomAt
+    room-is room = rw (lt-ltb _ _ h)
+
+    found-is : foundAt d i ≡ foundIf (starts (from d i)) (from d i)
+    unfolding foundAt
+    found-is = rw (lt-ltb _ _ h)
+
+    -- how far it goes
+    abbrev passed : Bool → ℕ
+    passed t = blocksIn (foundIf t (from d i))
+
+    passes : (t : Bool) → starts (from d i) ≡ t → 0 < passed t
+    passes true e = some-parts (from d i) e
+    passes false e = omega arith
+
+    goes : (t : Bool) → starts (from d i) ≡ t → reading 0 i (from d i) ≡ eventIf t i (from d i) ∷ reading 0 (i + passed t) (from d (i + passed t))
+    goes true e =
+        past-record i (from d i) e
+        ∙ ap (λ (bs : List (List ℕ)). eventIf true i (from d i) ∷ reading 0 (i + passed true) bs) (drop-drop (passed true) i (blocks d))
+    goes false e =
+        let m : suc i ≡ i + 1 = omega arith in
+        ap (λ (bs : List (List ℕ)). reading 0 i bs) (from-cons d i h)
+        ∙ past-lost i (blockAt d i) (from d (suc i)) (ap starts (sym (from-cons d i h)) ∙ e)
+        ∙ ap₂ (λ (bs : List (List ℕ)) (k : ℕ). lost-at i (lossOf (first bs)) ∷ reading 0 k (from d k)) (sym (from-cons d i h)) m
+
+-- ---- the walk
+
+abbrev Later : ℕ → List ℕ → List ℕ → Type 0
+Later n d other = (i : ℕ) (room : List ℕ) → length room ≡ length other → length (blocks d) ≤ i + n → walk n d i room ≡ itemsOf other (reading 0 i (from d i))
+
+module _ (n : ℕ) (d other : List ℕ) (i : ℕ) (room : List ℕ) where
+  past-end : length d ≤ 512 * i → walk (suc n) d i room ≡ itemsOf other (reading 0 i (from d i))
+  past-end k = rw (ended d i room k, from-nil d i k)
+
+  inside : Later n d other → length room ≡ length other → length (blocks d) ≤ i + suc n → 512 * i < length d → walk (suc n) d i room ≡ itemsOf other (reading 0 i (from d i))
+  inside later h l k =
+      let e : Event = eventAt d i in
+      let m : ℕ = passed d i k (starts (from d i)) in
+      let some : 0 < m = passes d i k (starts (from d i)) refl in
+      rw (item-is d i k room, room-is d i k room, found-is d i k)
+      (no-end i room e (walk n d (i + m) (roomAfter room e))
+      ∙ ap₂ (λ (x : Item) (xs : List (ℕ × Item)). (i, x) ∷ xs) (item-room room other h e)
+      (later (i + m) (roomAfter room e) (after-long room e ∙ h) (omega arith))
+      ∙ ap (λ (p : ℕ). (p, itemOf other e) ∷ itemsOf other (reading 0 (i + m) (from d (i + m)))) (sym (event-stands (starts (from d i)) i (from d i)))
+      ∙ ap (λ (es : List Event). itemsOf other es) (sym (goes d i k (starts (from d i)) refl)))
+
+walked-from : (n : ℕ) (d other : List ℕ) → Later n d other
+walked-from zero d other i room h l =
+    ap (λ (bs : List (List ℕ)). itemsOf other (reading 0 i bs)) (sym (drop-of-length-le (blocks d) {i = i} (omega arith)))
+walked-from (suc n) d other i room h l =
+    ⊎-elim (inside n d other i room (walked-from n d other) h l) (past-end n d other i room) (below-or-not (512 * i) (length d))
+
+pub walked : (deck room : List ℕ) (steps : ℕ) → length (blocks deck) ≤ steps → walk steps deck 0 room ≡ itemsOf room (events deck)
+unfolding events
+walked deck room steps h = walked-from steps deck room 0 room refl (omega arith)

@@ -1,0 +1,44 @@
+-- `reader::finding::is_part` meets its contract: its tests are those of the definition, joined alike. Assumes nothing.
+use mathlib.Core.Path.{_≡_, sym, _∙_}
+use borrow.Author.Needs.{needs}
+use Rattle.reader.proofs.Laws.Starts.{part-by, unsound-no-part}
+use Rattle.reader.proofs.finding.is_part.Statement.{statement}
+use Rattle.reader.proofs.finding.is_part.Tie as tie
+
+is-sound-requires : tie.Need-is-sound-requires
+is-sound-requires c κs = search needs
+
+number-of-requires : tie.Need-number-of-requires
+number-of-requires c κs = search needs
+
+length-of-requires : tie.Need-length-of-requires
+length-of-requires c κs = search needs
+
+part-of-requires : tie.Need-part-of-requires
+part-of-requires c κs = search needs
+
+is-clear-requires : tie.Need-is-clear-requires
+is-clear-requires c κs = search needs
+
+returns : tie.Need-returns
+returns c =
+    let a = c .before .before .before .before .before .before .before .args in
+    rw (c .before .before .before .number-of .ensures .0, c .before .before .length-of .ensures .0, c .before .part-of .ensures .0, c .is-clear .ensures)
+    (sym (part-by (a .number) (a .n) (a .j) (a .block .now) (sym (c .before .before .before .before .before .is-sound .ensures) ∙ c .before .before .before .before .if1 .taken)))
+
+returns-2 : tie.Need-returns-2
+returns-2 c =
+    let a = c .before .before .before .args in
+    sym (unsound-no-part (a .number) (a .n) (a .j) (a .block .now) (sym (c .before .is-sound .ensures) ∙ c .if1 .left))
+
+pub is-part-spec : {M : Type 1} → statement M
+is-part-spec =
+    tie.close
+    (tie.spec
+    is-sound-requires
+    number-of-requires
+    length-of-requires
+    part-of-requires
+    is-clear-requires
+    returns
+    returns-2)

@@ -1,0 +1,154 @@
+-- `reader::finding::is_start` meets its contract: its tests are those of a run, by the fields of the first block and the fill of the last.
+-- Assumes nothing.
+use mathlib.Core.Path.{_≡_, sym, ap, ap₂, _∙_}
+use mathlib.Core.Bool.{true, false, not, _&&_, _||_}
+use mathlib.Core.List.{List}
+use Prim.Native.Nat.{ℕ, _*_, _-_, _≤_, _<_}
+use native.Mathlib.Omega.{arith}
+use lib.Dec.{eqb, leb}
+use lib.ListN.{drop}
+use borrow.Author.Needs.{needs}
+use borrow.Author.Tests.{not-true, not-false}
+use Rattle.octets.specs.Numbers.{pairAt}
+use Rattle.blocks.specs.Block.{numberOf, lengthOf, dataOf}
+use Rattle.blocks.specs.Record.{isRecordLength, parts, zeros}
+use Rattle.reader.specs.Runs.{blockAt, from, areParts, dataFrom, isWhole, run, starts}
+use Rattle.reader.proofs.Laws.Starts.{starts-by, bad-head, good-length, bad-parts, good-parts, whole-by}
+use Rattle.reader.proofs.finding.is_start.Statement.{statement}
+use Rattle.reader.proofs.finding.is_start.Tie as tie
+
+module _ (c : tie.After-is-record-length) where
+  abbrev deck : List ℕ
+  deck = c .before .before .before .before .before .args .deck .now
+
+  abbrev position : ℕ
+  position = c .before .before .before .before .before .args .position
+
+  abbrev number : ℕ
+  number = c .before .before .number-of .result
+
+  abbrev n : ℕ
+  n = c .before .length-of .result
+
+  by : starts (from deck position) ≡ run number n (from deck position)
+  by =
+      starts-by deck position number n (c .before .before .before .before .before .pre)
+      (ap numberOf (sym (c .before .before .before .block-at .ensures)) ∙ sym (c .before .before .number-of .ensures .0))
+      (ap lengthOf (sym (c .before .before .before .block-at .ensures)) ∙ sym (c .before .length-of .ensures .0))
+
+-- a number and a length that a record may have
+module _ (c : tie.Else1) where
+  good : (eqb (number (c .before)) 0 || not (isRecordLength (n (c .before)))) ≡ false
+  good = rw (← c .before .is-record-length .ensures) (c .if1 .left)
+
+  sized : (3 ≤ n (c .before)) × (n (c .before) ≤ 16387)
+  sized = good-length (number (c .before)) (n (c .before)) (from (deck (c .before)) (position (c .before))) good
+
+-- parts as the fields say
+module _ (c : tie.Else2) where
+  abbrev here : tie.After-is-record-length
+  here = c .before .before .before .before
+
+  abbrev k : ℕ
+  k = c .before .before .parts-of .result
+
+  run-parts : areParts (number here) (n here) 0 k (from (deck here) (position here)) ≡ true
+  run-parts = sym (c .before .are-parts .ensures) ∙ not-false _ (c .if2 .left)
+
+  counted : (0 < k) × (502 * (k - 1) ≤ n here)
+  counted = omega (arith, sized (c .before .before .before), c .before .before .parts-of .ensures)
+
+block-at-requires : tie.Need-block-at-requires
+block-at-requires c κs = search needs
+
+number-of-requires : tie.Need-number-of-requires
+number-of-requires c κs = search needs
+
+length-of-requires : tie.Need-length-of-requires
+length-of-requires c κs = search needs
+
+is-record-length-requires : tie.Need-is-record-length-requires
+is-record-length-requires c κs = search needs
+
+returns : tie.Need-returns
+returns c =
+    sym (by (c .before)
+    ∙ bad-head (number (c .before)) (n (c .before)) (from (deck (c .before)) (position (c .before)))
+    (rw (← c .before .is-record-length .ensures) (c .if1 .taken)))
+
+parts-of-requires : tie.Need-parts-of-requires
+parts-of-requires c κs = search needs
+
+are-parts-requires : tie.Need-are-parts-requires
+are-parts-requires c κs = search needs
+
+returns-2 : tie.Need-returns-2
+returns-2 c =
+    let h : tie.After-is-record-length = c .before .before .before .before in
+    sym (by h
+    ∙ bad-parts (number h) (n h) (from (deck h) (position h)) (good (c .before .before .before))
+    (rw (← c .before .before .parts-of .ensures) (sym (c .before .are-parts .ensures) ∙ not-true _ (c .if2 .taken))))
+
+sub-block-at : tie.Need-sub-block-at
+sub-block-at c = counted c .0
+
+add-block-at : tie.Need-add-block-at
+add-block-at c = search needs
+
+block-at-requires-2 : tie.Need-block-at-requires-2
+block-at-requires-2 c κs = search needs
+
+sub-is-filled : tie.Need-sub-is-filled
+sub-is-filled c = counted (c .before) .0
+
+mul-is-filled : tie.Need-mul-is-filled
+mul-is-filled c = search needs
+
+sub-is-filled-2 : tie.Need-sub-is-filled-2
+sub-is-filled-2 c = search needs
+
+is-filled-requires : tie.Need-is-filled-requires
+is-filled-requires c κs = search needs
+
+pair-requires : tie.Need-pair-requires
+pair-requires c κs = search needs
+
+sub-result : tie.Need-sub-result
+sub-result c = sized (c .before .before .before .before .before .before) .0
+
+returns-3 : tie.Need-returns-3
+returns-3 c =
+    let found : tie.Else2 = c .before .before .before in
+    let h : tie.After-is-record-length = here found in
+    let bs : List (List ℕ) = from (deck h) (position h) in
+    let left : ℕ = n h - 502 * (k found - 1) in
+    sym (by h
+    ∙ good-parts (number h) (n h) bs (good (found .before .before .before)) (rw (← found .before .before .parts-of .ensures) (run-parts found))
+    ∙ ap (λ (m : ℕ). isWhole (n h) (dataFrom m bs)) (sym (found .before .before .parts-of .ensures))
+    ∙ whole-by (number h) (n h) (k found) (deck h) (position h) (run-parts found) (omega arith) (counted found .0) (counted found .1)
+    ∙ ap₂ _&&_
+    (ap (λ (b : List ℕ). zeros (drop left (dataOf b))) (sym (c .before .before .block-at2 .ensures)) ∙ sym (c .before .is-filled .ensures))
+    (ap (λ (m : ℕ). leb m (n h - 3)) (ap (λ (b : List ℕ). pairAt b 9) (sym (h .before .before .before .block-at .ensures)) ∙ sym (c .pair .ensures .0))))
+
+pub is-start-spec : {M : Type 1} → statement M
+is-start-spec =
+    tie.close
+    (tie.spec
+    block-at-requires
+    number-of-requires
+    length-of-requires
+    is-record-length-requires
+    returns
+    parts-of-requires
+    are-parts-requires
+    returns-2
+    sub-block-at
+    add-block-at
+    block-at-requires-2
+    sub-is-filled
+    mul-is-filled
+    sub-is-filled-2
+    is-filled-requires
+    pair-requires
+    sub-result
+    returns-3)

@@ -1,0 +1,69 @@
+-- The writer's answer, with the room that goes with it.
+--     taken-only     blocks are answered only where no refusal applies
+--     answered       an answer and its room are the whole answer
+-- Assumes nothing.
+use mathlib.Core.Path.{_≡_, refl, sym}
+use mathlib.Core.Bool.{Bool, true, false, cond}
+use mathlib.Core.List.{List}
+use mathlib.Core.Logic.{_≢_}
+use Prim.Native.Nat.{ℕ, _*_, _≤_}
+use native.Mathlib.Omega.{arith}
+use lib.Dec.{eqb, leb}
+use lib.ListN.{length}
+use borrow.Author.Tests.{eqb-false, leb-true}
+use Rattle.profiles.specs.declared.fields.Profile.{Profile}
+use Rattle.lint.specs.Judging.{admissionOf}
+use Rattle.lint.specs.declared.refusals.Refusal.{Refusal}
+use Rattle.lint.specs.declared.refusals.Refusal.the-variants.{NoNumber, NoRoom}
+use Rattle.lint.specs.declared.judging.Judgement.{Judgement}
+use Rattle.lint.specs.declared.judging.Judgement.the-variants as Judgements
+use Rattle.blocks.specs.Record.{recordOf, parts}
+use Rattle.writer.specs.Cutting.{blocksOf}
+use Rattle.writer.specs.Answers.{byRoom, byAdmission, writeAnswer, roomAfter, writeRoom, Written}
+use Rattle.writer.specs.declared.writing.Answer.{Answer}
+use Rattle.writer.specs.declared.writing.Answer.the-variants.{Blocks, Refused}
+
+-- what is refused is no number of blocks
+refused : (r : Refusal) (count : ℕ) → Refused r ≡ Blocks count → ⊥
+refused r count e =
+    let z : _≡_ {A = ℕ} 0 1 = cc e in
+    omega arith
+
+-- no refusal applies, and the count is that of the parts
+pub record Taken (admission : Judgement) (number count room all : ℕ) : Type 0 where
+  pub for : Profile
+  pub admitted : admission ≡ Judgements.Accepted for
+  pub numbered : number ≢ 0
+  pub fitting : 512 * count ≤ room
+  pub counted : count ≡ all
+
+room-taken : (count all room : ℕ) → byRoom all room ≡ Blocks count → (512 * count ≤ room) × (count ≡ all)
+room-taken count all room = go (leb (512 * all) room) refl
+  where
+    go : (b : Bool) → leb (512 * all) room ≡ b → cond b (Blocks all) (Refused NoRoom) ≡ Blocks count → (512 * count ≤ room) × (count ≡ all)
+    go true t e =
+        let same : count ≡ all = cc e in
+        (rw same (leb-true (512 * all) room t), same)
+    go false t e = absurd (refused NoRoom count e)
+
+admission-taken : (admission : Judgement) (number count room all : ℕ) → byAdmission admission number all room ≡ Blocks count → Taken admission number count room all
+admission-taken (Judgements.Refused r) number count room all e = absurd (refused r count e)
+admission-taken (Judgements.Accepted p) number count room all e = go (eqb number 0) refl e
+  where
+    go : (b : Bool) → eqb number 0 ≡ b → cond b (Refused NoNumber) (byRoom all room) ≡ Blocks count → Taken (Judgements.Accepted p) number count room all
+    go true t e = absurd (refused NoNumber count e)
+    go false t e =
+        let f = room-taken count all room e in
+        record { for = p; admitted = refl; numbered = eqb-false number 0 t; fitting = f .0; counted = f .1 }
+
+module _ (number profile : ℕ) (certificate issuer room : List ℕ) where
+  pub taken-only : (count : ℕ) → writeAnswer number profile certificate issuer room ≡ Blocks count
+      → Taken (admissionOf (length certificate) (length issuer) profile) number count (length room) (parts (length (recordOf profile certificate issuer)))
+  unfolding writeAnswer
+  taken-only count e =
+      admission-taken (admissionOf (length certificate) (length issuer) profile) number count (length room) (parts (length (recordOf profile certificate issuer))) e
+
+  pub answered : (r : Answer) (last : List ℕ) → writeAnswer number profile certificate issuer room ≡ r
+      → last ≡ roomAfter r (blocksOf number (recordOf profile certificate issuer)) room → Written number profile certificate issuer room r last
+  unfolding writeRoom
+  answered r last e b = record { told = sym e; bytes = rw e b }

@@ -1,0 +1,45 @@
+-- `writer::writing::put_block` meets its contract: the head, the data and the check put make the block. Assumes nothing.
+use Prim.Native.Nat.{_*_}
+use borrow.Author.Needs.{needs}
+use Rattle.writer.proofs.Laws.Rooms.{block-put}
+use Rattle.writer.proofs.writing.put_block.Statement.{statement}
+use Rattle.writer.proofs.writing.put_block.Tie as tie
+
+cast-put-head : tie.Need-cast-put-head
+cast-put-head c = search needs
+
+put-head-requires : tie.Need-put-head-requires
+put-head-requires c κs = search needs
+
+mul-copy : tie.Need-mul-copy
+mul-copy c = search needs
+
+copy-requires : tie.Need-copy-requires
+copy-requires c κs = search needs
+
+put-check-requires : tie.Need-put-check-requires
+put-check-requires c κs = search needs
+
+same-length : tie.Need-same-length
+same-length c = search needs
+
+returns : tie.Need-returns
+returns c =
+    let check = c .before .before in
+    let copied = check .before .before .before .before in
+    let head = copied .before .before .before .before in
+    let start = head .before .before .before .before in
+    let a = start .args in
+    block-put (a .number) (a .n) (a .part) (a .part * 502) (a .desk .now) (a .block .now) _ _ _ (start .pre .2) (start .pre .0) (head .put-head .ensures) (copied .copy .ensures) (check .put-check .ensures)
+
+pub put-block-spec : {M : Type 1} → statement M
+put-block-spec =
+    tie.close
+    (tie.spec
+    cast-put-head
+    put-head-requires
+    mul-copy
+    copy-requires
+    put-check-requires
+    same-length
+    returns)
