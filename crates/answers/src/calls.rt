@@ -14,11 +14,6 @@ pub fn fill(room: &mut [u8]) {
     }
 }
 
-// The number that three octets say, the high one first.
-pub fn triple(s: &[u8], i: usize) -> usize {
-    65536 * octets::wide(octets::octet(s, i)) + octets::pair(s, i + 1)
-}
-
 pub fn say_no_call() {
     io::write_all(1, b"no call\n");
 }
@@ -38,7 +33,7 @@ fn call_linter(certificate: &[u8], issuer: &[u8], profile: u8, room: &mut [u8]) 
 // Answers a frame of kind 12 with a part of the room that is lent.
 pub fn answer_call(frame: &[u8], room: &mut [u8]) {
     let profile = octets::octet(frame, 0);
-    let size = triple(frame, 1);
+    let size = octets::number(frame, 1, 0, 3);
     let cut = 6 + octets::pair(frame, 4);
     if frame.len() < cut {
         return say_no_call();
@@ -72,7 +67,7 @@ fn call_writer(number: u32, certificate: &[u8], issuer: &[u8], profile: u8, room
 pub fn answer_writing(frame: &[u8], room: &mut [u8]) {
     let number = 65536 * octets::pair(frame, 0) + octets::pair(frame, 2);
     let profile = octets::octet(frame, 4);
-    let size = triple(frame, 5);
+    let size = octets::number(frame, 5, 0, 3);
     let cut = 10 + octets::pair(frame, 8);
     if frame.len() < cut {
         return say_no_call();

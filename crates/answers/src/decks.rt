@@ -1,7 +1,6 @@
 // Decks to read.
 use crate::calls::fill;
 use crate::calls::say_no_call;
-use crate::calls::triple;
 use crate::lines::LINE;
 use crate::lines::end;
 use crate::lines::put;
@@ -90,8 +89,8 @@ fn say_no_deck() -> bool {
 
 // Answers a frame of kind 14, whose n octets stand at the front of the space that then takes the deck.
 pub fn answer_deck(n: usize, space: &mut [u8], room: &mut [u8]) -> bool {
-    let size = triple(space, 0);
-    let length = triple(space, 3);
+    let size = octets::number(space, 0, 0, 3);
+    let length = octets::number(space, 3, 0, 3);
     if n != 6 {
         return say_no_deck();
     }
