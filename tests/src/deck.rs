@@ -284,9 +284,9 @@ pub enum Spoiling {
     AllOnes,
     /// Octets by chance.
     Chance,
-    /// The fields of a block of the same record, behind them octets by chance.
+    /// The block's own fields, and octets by chance behind them.
     ChanceData,
-    /// The check a multiple of its divisor too high, where two octets can say that, or one too high.
+    /// The check 65,521 too high, where two octets can say that, and else one too high.
     CheckTooHigh,
 }
 
@@ -307,24 +307,24 @@ pub fn spoil(block: &mut [u8], spoiling: Spoiling, random: &mut Random) {
         Spoiling::OctetsExchanged => exchange_octets(block, random),
         Spoiling::AllZero => block.fill(0),
         Spoiling::AllOnes => block.fill(0xFF),
-        Spoiling::Chance => fill_by_chance(block, random),
-        Spoiling::ChanceData => fill_by_chance(&mut block[8..], random),
+        Spoiling::Chance => fill_by_chance(block, 0, random),
+        Spoiling::ChanceData => fill_by_chance(block, 8, random),
         Spoiling::CheckTooHigh => raise_check(block),
     }
-    if !fails_its_check(block) {
-        // Once in 65,521 times chance finds the check.
-        block[CHECK + 1] ^= 1;
-    }
-    assert!(fails_its_check(block), "a spoiled block fails its check");
+    assert!(fails_its_check(block), "{spoiling:?}: a spoiled block fails its check");
 }
 
 pub fn fails_its_check(block: &[u8]) -> bool {
     check(block).to_be_bytes() != block[CHECK..]
 }
 
-fn fill_by_chance(octets: &mut [u8], random: &mut Random) {
-    for octet in octets {
-        *octet = random.octet();
+/// Octets by chance from a place on, and others where chance has found the check.
+fn fill_by_chance(block: &mut [u8], from: usize, random: &mut Random) {
+    loop {
+        block[from..].fill_with(|| random.octet());
+        if fails_its_check(block) {
+            return;
+        }
     }
 }
 

@@ -203,7 +203,7 @@ impl Reader {
         let readings: Vec<&Reading> = waiting.iter().map(|waiting| &waiting.reading).collect();
         for (Waiting { what, reading, due }, steps) in waiting.iter().zip(read(program, &readings)) {
             self.proved.hold(what, &None, &first_difference(due, &steps), || {
-                format!("{}\n  smallest: {}", reading.shown(), smallest_difference(program, reading).shown())
+                format!("as small as shows it: {}", smallest_difference(program, reading).shown())
             });
             for step in &steps {
                 *self.met.entry(kind_of(step)).or_default() += 1;

@@ -98,10 +98,9 @@ fn written(writer: &Writer, records: &[&Record], random: &mut Random) -> Vec<Vec
     if !writer.is_there() {
         return due;
     }
-    let room = |blocks: &[Vec<u8>], random: &mut Random| BLOCK * blocks.len() + random.below(9);
     let pairs = records.iter().zip(&due);
     let writings: Vec<Writing> =
-        pairs.map(|(record, blocks)| Writing::of(record, room(blocks, random))).collect();
+        pairs.map(|(record, blocks)| Writing::of(record, BLOCK * blocks.len() + random.below(9))).collect();
     let outcomes = writer.outcomes(&writings.iter().collect::<Vec<_>>());
     for ((writing, outcome), blocks) in writings.iter().zip(&outcomes).zip(&due) {
         let due = outcome_of(&Ok(blocks.concat()), writing.room);
@@ -173,6 +172,21 @@ fn reading_gives_exactly_the_records_none_of_whose_blocks_was_spoiled() {
     hold_met(&steps, &["record without findings", "record with findings", "lost unsound", "lost stray"]);
 }
 
+/// The deck of these records with one block of one of them spoiled.
+fn with_one_spoiled(records: &[Record], (victim, position): (usize, usize), way: Spoiling) -> Deck {
+    let mut random = Random::for_purpose("one block spoiled");
+    let mut deck = Deck::default();
+    for (turn, record) in records.iter().enumerate() {
+        let mut blocks = record.blocks();
+        let spoiled: &[usize] = if turn == victim { &[position] } else { &[] };
+        for position in spoiled {
+            spoil(&mut blocks[*position], way, &mut random);
+        }
+        push_spoiled(&mut deck, record, &blocks, spoiled);
+    }
+    deck
+}
+
 /// Each single block of a deck spoiled in each way: the record that it is of is gone, and no other.
 #[test]
 fn every_block_of_a_deck_spoiled_in_every_way() {
@@ -180,21 +194,14 @@ fn every_block_of_a_deck_spoiled_in_every_way() {
     let mut reader = Reader::of("decks with each block spoiled in each way");
     let cases = [tiny(&mut random), linted(&mut random), of_two_blocks(&mut random), linted(&mut random)];
     let records = numbered(cases);
-    for (victim, of_victim) in records.iter().enumerate() {
-        for position in 0..of_victim.blocks().len() {
-            for way in SPOILINGS {
-                let mut deck = Deck::default();
-                for (turn, record) in records.iter().enumerate() {
-                    let mut blocks = record.blocks();
-                    if turn == victim {
-                        spoil(&mut blocks[position], way, &mut random);
-                        push_spoiled(&mut deck, record, &blocks, &[position]);
-                    } else {
-                        deck.push_record(record);
-                    }
-                }
-                reader.hold(&format!("{way:?}"), &deck, some_room(&deck, &mut random));
-            }
+    let places = records
+        .iter()
+        .enumerate()
+        .flat_map(|(victim, record)| (0..record.blocks().len()).map(move |part| (victim, part)));
+    for place in places {
+        for way in SPOILINGS {
+            let deck = with_one_spoiled(&records, place, way);
+            reader.hold(&format!("{way:?}"), &deck, some_room(&deck, &mut random));
         }
     }
     reader.finish();
