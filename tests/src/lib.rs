@@ -12,9 +12,8 @@
 //! | `malformed` | certificates that are refused with 4, 5 or 6 at a known place |
 //! | `times` | times at every edge, and whether they are times |
 //! | `mutation`, `mutants`, `trees` | chance changes and chance trees |
-//! | `deck` | decks with every kind of damage, and the listing that is due |
-//! | `sample` | the sample deck that ships with the repository |
 //! | `records`, `deck` | records of every kind; decks with every kind of damage, and the listing that is due |
+//! | `sample` | the sample deck that ships with the repository |
 //! | `outside` | certificates that nobody here made |
 //! | `verdicts` | octets with their verdicts of soundness, by hand |
 //! | `grammar` | octets that are certificates or extension values, and octets that are none, by hand |
@@ -53,9 +52,9 @@ pub mod outside;
 pub mod profile;
 pub mod program;
 pub mod random;
-pub mod sample;
 pub mod reader;
 pub mod records;
+pub mod sample;
 pub mod shrink;
 pub mod times;
 pub mod trees;

@@ -6,7 +6,7 @@ use std::path::Path;
 use comparison::amount::say;
 use comparison::deck::*;
 use comparison::holding::AMPLE_ROOM;
-use comparison::program::{programs_are_left_out, Program};
+use comparison::program::Program;
 use comparison::random::Random;
 use comparison::reader::MOST_OCTETS;
 use comparison::records::{any_record, largest, tiny};
@@ -15,11 +15,7 @@ use reference::{listing, Loss};
 
 /// The program, unless the environment leaves the programs out.
 fn decklint() -> Option<Program> {
-    if programs_are_left_out() {
-        println!("skipped: decklint was not run, because DLO_NO_PROGRAMS=1 leaves the programs out");
-        return None;
-    }
-    Some(Program::find("decklint").unwrap_or_else(|why| panic!("{why}")))
+    Program::unless_left_out("decklint", "the proved lister")
 }
 
 /// "Past that it prints only `deck too long`."
