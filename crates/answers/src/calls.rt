@@ -1,9 +1,6 @@
 // Calls of the linter and of the writer.
-use crate::lines::LINE;
-use crate::lines::end;
-use crate::lines::put;
-use crate::lines::put_answer;
-use crate::lines::put_refusal;
+use crate::lines::say_answer;
+use crate::lines::say_written;
 
 // Octets that differ from their neighbours and from those 256 places on, so that a changed one shows.
 pub fn fill(room: &mut [u8]) {
@@ -18,15 +15,9 @@ pub fn say_no_call() {
     io::write_all(1, b"no call\n");
 }
 
-fn say_lint(answer: lint::Answer) {
-    let mut line = [0u8; LINE];
-    let a = put_answer(&mut line, 0, answer);
-    end(&mut line, a);
-}
-
 fn call_linter(certificate: &[u8], issuer: &[u8], profile: u8, room: &mut [u8]) {
     fill(room);
-    say_lint(lint::lint(certificate, issuer, profile, room));
+    say_answer(lint::lint(certificate, issuer, profile, room));
     io::write_all(1, room);
 }
 
@@ -42,19 +33,6 @@ pub fn answer_call(frame: &[u8], room: &mut [u8]) {
         return say_no_call();
     }
     call_linter(&frame[6..cut], &frame[cut..], profile, &mut room[..size]);
-}
-
-fn put_written(line: &mut [u8], answer: writer::Answer) -> usize {
-    match answer {
-        writer::Answer::Blocks(count) => put(line, 0, b"blocks ", count),
-        writer::Answer::Refused(r) => put_refusal(line, 0, r),
-    }
-}
-
-fn say_written(answer: writer::Answer) {
-    let mut line = [0u8; LINE];
-    let a = put_written(&mut line, answer);
-    end(&mut line, a);
 }
 
 fn call_writer(number: u32, certificate: &[u8], issuer: &[u8], profile: u8, room: &mut [u8]) {

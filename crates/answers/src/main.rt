@@ -73,6 +73,37 @@ fn answer_frame(kind: u8, frame: &[u8], room: &mut [u8]) {
     }
 }
 
+// Fills the deck from the input, answers it, and says whether it was whole.
+fn read_deck(deck: &mut [u8], room: &mut [u8]) -> bool {
+    if io::read_full(0, deck) != deck.len() {
+        return false;
+    }
+    decks::answer_deck(deck, room);
+    true
+}
+
+fn no_deck() -> bool {
+    calls::say_no_call();
+    true
+}
+
+// Answers a frame of kind 14, whose n octets stand at the front of the space that then takes the deck, and says whether
+// to go on.
+fn answer_next_deck(n: usize, space: &mut [u8], room: &mut [u8]) -> bool {
+    let size = octets::number(space, 0, 0, 3);
+    let length = octets::number(space, 3, 0, 3);
+    if n != 6 {
+        return no_deck();
+    }
+    if room.len() < size {
+        return no_deck();
+    }
+    if space.len() < length {
+        return no_deck();
+    }
+    read_deck(&mut space[..length], &mut room[..size])
+}
+
 // Reads a frame of n octets to the front of the space, answers it, and says whether to go on.
 fn answer_next_of(kind: u8, n: usize, space: &mut [u8], room: &mut [u8]) -> bool {
     if space.len() < n {
@@ -82,7 +113,7 @@ fn answer_next_of(kind: u8, n: usize, space: &mut [u8], room: &mut [u8]) -> bool
         return false;
     }
     if kind == 14 {
-        return decks::answer_deck(n, space, room);
+        return answer_next_deck(n, space, room);
     }
     answer_frame(kind, &space[..n], room);
     true

@@ -33,8 +33,8 @@ same-length c = search needs
 returns-2 : tie.Need-returns-2
 returns-2 c = search needs
 
-answer-deck-requires : tie.Need-answer-deck-requires
-answer-deck-requires c κs = search needs
+answer-next-deck-requires : tie.Need-answer-next-deck-requires
+answer-next-deck-requires c κs = search needs
 
 same-length-2 : tie.Need-same-length-2
 same-length-2 c = search needs
@@ -73,7 +73,7 @@ answer-next-of-spec =
     read-full-requires
     same-length
     returns-2
-    answer-deck-requires
+    answer-next-deck-requires
     same-length-2
     same-length-3
     returns-3

@@ -1,9 +1,9 @@
--- `answers::decks::answer_deck` is safe and ends. Assumes nothing.
+-- `answers::answer_next_deck` is safe and ends. Assumes nothing.
 use mathlib.Core.Path.{sym}
 use lib.Seq.{length-take-le}
 use borrow.Author.Needs.{needs}
-use Rattle.answers.proofs.decks.answer_deck.Statement.{statement}
-use Rattle.answers.proofs.decks.answer_deck.Tie as tie
+use Rattle.answers.proofs.answer_next_deck.Statement.{statement}
+use Rattle.answers.proofs.answer_next_deck.Tie as tie
 
 number-requires : tie.Need-number-requires
 number-requires c κs = search needs
@@ -11,8 +11,8 @@ number-requires c κs = search needs
 number-requires-2 : tie.Need-number-requires-2
 number-requires-2 c κs = search needs
 
-say-no-deck-requires : tie.Need-say-no-deck-requires
-say-no-deck-requires c κs = search needs
+no-deck-requires : tie.Need-no-deck-requires
+no-deck-requires c κs = search needs
 
 same-length : tie.Need-same-length
 same-length c = search needs
@@ -20,8 +20,8 @@ same-length c = search needs
 returns : tie.Need-returns
 returns c = search needs
 
-say-no-deck-requires-2 : tie.Need-say-no-deck-requires-2
-say-no-deck-requires-2 c κs = search needs
+no-deck-requires-2 : tie.Need-no-deck-requires-2
+no-deck-requires-2 c κs = search needs
 
 same-length-2 : tie.Need-same-length-2
 same-length-2 c = search needs
@@ -29,8 +29,8 @@ same-length-2 c = search needs
 returns-2 : tie.Need-returns-2
 returns-2 c = search needs
 
-say-no-deck-requires-3 : tie.Need-say-no-deck-requires-3
-say-no-deck-requires-3 c κs = search needs
+no-deck-requires-3 : tie.Need-no-deck-requires-3
+no-deck-requires-3 c κs = search needs
 
 same-length-3 : tie.Need-same-length-3
 same-length-3 c = search needs
@@ -62,19 +62,19 @@ same-length-5 c = search needs
 returns-4 : tie.Need-returns-4
 returns-4 c = search needs
 
-pub answer-deck-spec : {M : Type 1} → statement M
-answer-deck-spec =
+pub answer-next-deck-spec : {M : Type 1} → statement M
+answer-next-deck-spec =
     tie.close
     (tie.spec
     number-requires
     number-requires-2
-    say-no-deck-requires
+    no-deck-requires
     same-length
     returns
-    say-no-deck-requires-2
+    no-deck-requires-2
     same-length-2
     returns-2
-    say-no-deck-requires-3
+    no-deck-requires-3
     same-length-3
     returns-3
     slice-relend-prefix-read-deck
