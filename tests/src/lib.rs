@@ -13,6 +13,7 @@
 //! | `times` | times at every edge, and whether they are times |
 //! | `mutation`, `mutants`, `trees` | chance changes and chance trees |
 //! | `deck` | decks with every kind of damage, and the listing that is due |
+//! | `sample` | the sample deck that ships with the repository |
 //! | `outside` | certificates that nobody here made |
 //! | `verdicts` | octets with their verdicts of soundness, by hand |
 //! | `grammar` | octets that are certificates or extension values, and octets that are none, by hand |
@@ -50,6 +51,7 @@ pub mod outside;
 pub mod profile;
 pub mod program;
 pub mod random;
+pub mod sample;
 pub mod shrink;
 pub mod times;
 pub mod trees;

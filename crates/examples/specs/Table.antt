@@ -1,11 +1,11 @@
--- The examples of document 01, "Examples on the edge", that are marked P. Each row has the paper's number, what it asks and what it answers.
--- P12 joins with the layer that it speaks of: a new kind of question is a constructor and a line of `answer`.
+-- The examples of document 01, "Examples on the edge", that are marked P, and the deck of "The deck". Each row has the paper's number, what it asks
+-- and what it answers.
 use mathlib.Core.Bool.{Bool, true, false}
-use mathlib.Core.List.{List, [], _∷_}
+use mathlib.Core.List.{List, [], _∷_, _++_}
 use Prim.Native.Nat.{ℕ}
 use Prim.Native.Char.{code}
 use Prim.Native.String.{String, [] as end, _∷_ as _then_}
-use lib.ListN.{length}
+use lib.ListN.{length, take, drop, replicate}
 use lib.IntN.{ℤ, pos, negsuc}
 use Rattle.der.specs.Header.{headOf}
 use Rattle.der.specs.Contents.{contentsOf}
@@ -24,6 +24,15 @@ use Rattle.rules_values.specs.Usage.{allowedUsage}
 use Rattle.values.specs.Usage.{otherUsage}
 use Rattle.values.specs.Policies.{isBelow, federalArc}
 use Rattle.asn.specs.Answers.{certificateVerdict, refusalNumber as formNumber, refusalPlace as formPlace, valueOk}
+use Rattle.lint.specs.declared.refusals.Side.the-variants.{Certificate}
+use Rattle.lint.specs.declared.refusals.Refusal.the-variants.{NotCertificate}
+use Rattle.lint.specs.declared.linting.Answer.the-variants as Lint
+use Rattle.blocks.specs.Block.{blockOf}
+use Rattle.writer.specs.Cutting.{zeroFilled, blocksOf, joined}
+use Rattle.reader.specs.Runs.{blocks}
+use Rattle.reader.specs.Walking.{Handed, walk}
+use Rattle.reader.specs.declared.finding.Loss.the-variants.{Short, Unsound}
+use Rattle.reader.specs.declared.stepping.Item.the-variants as Items
 
 pub data Question : Type 0 where
   -- a side: is it refused by its encoding, and where?
@@ -42,12 +51,18 @@ pub data Question : Type 0 where
   below : List ℕ → Question
   -- a key usage: does it break 405 in this profile with this kind of key?
   usage : Profile → KeyKind → List ℕ → Question
+  -- the octets of a record of this number: which check has its first block?
+  check : ℕ → List ℕ → Question
+  -- a deck, and a room for the linter: what does stepping through it hand out?
+  reading : List ℕ → List ℕ → Question
 
 pub data Answer : Type 0 where
   -- a refusal by number and place; number 0 is none
   refusal : ℕ → ℕ → Answer
   number : ℤ → Answer
   says : Bool → Answer
+  octets : List ℕ → Answer
+  handed : List Handed → Answer
   -- the question is about something that is none
   senseless : Answer
 
@@ -75,6 +90,8 @@ answer (within p a b) = isWithin (maxDays p) (timeOf 23 (ascii a)) (timeOf 23 (a
 answer (value slot s) = says (valueOk s slot 0 (length s))
 answer (below s) = says (isBelow federalArc s)
 answer (usage p kind s) = says (otherUsage s (headOf s 0 (length s)) (allowedUsage p kind))
+answer (check k p) = octets (drop 510 (blockOf k (length p) 0 (take 502 (zeroFilled p))))
+answer (reading deck room) = handed (walk (length (blocks deck)) deck 0 room)
 
 pub record Example : Type 0 where
   pub paper : ℕ
@@ -86,6 +103,22 @@ P n q a = record { paper = n; asked = q; answered = a }
 
 abbrev sound : Answer
 sound = refusal 0 0
+
+-- "P12 record 1, data 01 00 02 30 00 30 00"
+abbrev p12 : List ℕ
+p12 = 0x01 ∷ 0x00 ∷ 0x02 ∷ 0x30 ∷ 0x00 ∷ 0x30 ∷ 0x00 ∷ []
+
+-- "the P12 block, a zero block and 100 more octets"
+unfoldable pub p12Deck : List ℕ
+p12Deck = joined (blocksOf 1 p12) ++ replicate 612 0
+
+-- "record 1 profile 1 refused 6 side 1 at 0", "lost 1 unsound", "lost 2 short"
+abbrev p12Handed : List Handed
+p12Handed =
+    record { position = 0; item = Items.Record (record { number = 1; profile = 1; length = 7; answer = Lint.Refused (NotCertificate Certificate 0) }); report = [] }
+    ∷ record { position = 1; item = Items.Lost Unsound; report = [] }
+    ∷ record { position = 2; item = Items.Lost Short; report = [] }
+    ∷ []
 
 -- P10 and P11 hold for both profiles of S.
 unfoldable pub table : List Example
@@ -116,4 +149,6 @@ table =
     ∷ P 11 (usage Organization Rsa (0x03 ∷ 0x02 ∷ 0x05 ∷ 0xA0 ∷ [])) (says false)
     ∷ P 11 (usage Organization EllipticCurve (0x03 ∷ 0x02 ∷ 0x05 ∷ 0xA0 ∷ [])) (says true)
     ∷ P 11 (value 4 (0x03 ∷ 0x02 ∷ 0x00 ∷ 0x80 ∷ [])) (says false)
+    ∷ P 12 (check 1 p12) (octets (0x05 ∷ 0x2E ∷ []))
+    ∷ P 12 (reading p12Deck []) (handed p12Handed)
     ∷ []

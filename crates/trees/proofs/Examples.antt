@@ -1,0 +1,31 @@
+-- X.690's own examples, by computation: each tree encodes to its octets, and these read back as the tree and are sound. Assumes nothing.
+use mathlib.Core.Path.{_≡_, refl}
+use mathlib.Core.List.{[], _∷_, map}
+use Rattle.trees.specs.Trees.{numberBy, numberOctets, lengthOctets, element, encode}
+use Rattle.trees.specs.Reading.{treesOf, treeOf, parse}
+use Rattle.trees.specs.Examples.{Example, table}
+use Rattle.octets.specs.Octets.{octetsFrom}
+use Rattle.octets.specs.Numbers.{numberFrom}
+use Rattle.der.specs.Header.{headOf, childrenOf, childrenBy}
+use Rattle.der.specs.Contents.{arcsOk, primitiveOk, elementOk}
+use Rattle.der.specs.Order.{octetsLe, ascendFrom}
+use Rattle.der.specs.Elements.{elementsOf}
+use Rattle.der.specs.Soundness.{first, soundness, stretchSoundness, derSoundness}
+use Rattle.der.specs.declared.walk.Soundness.the-variants.{Sound}
+
+pub encoded : map (λ (e : Example). encode (e .tree)) table ≡ map (λ (e : Example). e .octets) table
+unfolding table encode element lengthOctets numberOctets numberBy
+encoded = refl
+
+pub parsed : map (λ (e : Example). parse (e .octets)) table ≡ map (λ (e : Example). e .tree) table
+unfolding table parse treeOf treesOf headOf childrenOf childrenBy octetsFrom numberFrom
+parsed = refl
+
+pub judged : map (λ (e : Example). derSoundness (e .octets)) table ≡ map (λ (e : Example). Sound) table
+unfolding table stretchSoundness soundness first elementsOf elementOk primitiveOk arcsOk ascendFrom octetsLe headOf childrenOf childrenBy octetsFrom numberFrom
+judged = refl
+
+-- 8.1.3.4 and 8.1.3.5: a length of 38 takes one octet, 201 one more; and beside X.690's own, 127, 300 and 65,536
+pub lengths : map lengthOctets (38 ∷ 201 ∷ 127 ∷ 300 ∷ 65536 ∷ []) ≡ (0x26 ∷ []) ∷ (0x81 ∷ 0xC9 ∷ []) ∷ (0x7F ∷ []) ∷ (0x82 ∷ 0x01 ∷ 0x2C ∷ []) ∷ (0x83 ∷ 0x01 ∷ 0x00 ∷ 0x00 ∷ []) ∷ []
+unfolding lengthOctets numberOctets numberBy
+lengths = refl

@@ -1,0 +1,12 @@
+-- Laws of the definitions, by file.
+pub mod Parts
+pub mod Numbers
+pub mod Identifier
+pub mod Lengths
+pub mod Element
+pub mod Walks
+pub mod Encoding
+pub mod Reading
+pub mod Writing
+pub mod Outline
+pub mod Theorem

@@ -1,0 +1,6 @@
+-- Trees of elements, their encoding by X.690, and the statement that sound DER is exactly such an encoding. Read them in this order.
+pub mod Trees
+pub mod Reading
+pub mod Outline
+pub mod Statement
+pub mod Examples
