@@ -3,3 +3,4 @@ pub mod Putting
 pub mod Decimal
 pub mod Entries
 pub mod Lines
+pub mod Listing

@@ -1,4 +1,5 @@
 -- The entries of a report, by their place.
+--     made, made-same          an entry by its three numbers
 --     entry-past, entry-by     an entry past the end of the report, and any other by its three pairs of octets
 --     decode-next              the first k + 1 entries are the first k, and entry k
 --     no-findings, one-finding, all-findings     their lines, put one behind the other
@@ -28,10 +29,10 @@ use Rattle.listing.specs.Listing.{findingLines, entriesOf, recordLines}
 use Rattle.listing.proofs.Laws.Putting.{put-nothing, _⨾_}
 
 -- an entry by its three numbers
-abbrev made : ℕ → ℕ → ℕ → Entry
+abbrev pub made : ℕ → ℕ → ℕ → Entry
 made rule start len = record { rule = rule; place = record { start = start; len = len } }
 
-made-same : {a b c x y z : ℕ} → a ≡ x → b ≡ y → c ≡ z → made a b c ≡ made x y z
+pub made-same : {a b c x y z : ℕ} → a ≡ x → b ≡ y → c ≡ z → made a b c ≡ made x y z
 made-same e f g = rw (e, f, g)
 
 pair-past : (s : List ℕ) (i : ℕ) → length s ≤ i → 0 ≡ pairAt s i
