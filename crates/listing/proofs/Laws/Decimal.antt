@@ -9,7 +9,7 @@
 -- Assumes nothing.
 use mathlib.Core.Path.{_≡_, refl, sym, ap, ap₂, subst, _∙_}
 use mathlib.Core.List.{List, [], _∷_, _++_, append-nil}
-use mathlib.Core.Bool.{Bool, true, false, cond}
+use mathlib.Core.Bool.{Bool, true, false}
 use Prim.Native.Nat.{ℕ, zero, suc, _+_, _-_, _*_, _/_, _%_, _^_, _≤_, _<_}
 use native.Mathlib.Nat.{pow-suc}
 use native.Mathlib.Omega.{arith}
@@ -28,7 +28,7 @@ by-most (suc f) zero n h l = absurd (omega arith)
 by-most (suc f) (suc g) n h l = go (by-most f g (n / 10)) (ltb n 10) refl
   where
     go : (n / 10 < f → n / 10 < g → digitsBy f (n / 10) ≡ digitsBy g (n / 10)) → (t : Bool) → ltb n 10 ≡ t
-        → cond t ((48 + n) ∷ []) (digitsBy f (n / 10) ++ ((48 + n % 10) ∷ [])) ≡ cond t ((48 + n) ∷ []) (digitsBy g (n / 10) ++ ((48 + n % 10) ∷ []))
+        → _≡_ {A = List ℕ} (elim t [ true ↦ (48 + n) ∷ [] | false ↦ digitsBy f (n / 10) ++ ((48 + n % 10) ∷ []) ]) (elim t [ true ↦ (48 + n) ∷ [] | false ↦ digitsBy g (n / 10) ++ ((48 + n % 10) ∷ []) ])
     go e true t = refl
     go e false t =
         let k : 10 ≤ n = ltb-false n 10 t in
@@ -36,12 +36,12 @@ by-most (suc f) (suc g) n h l = go (by-most f g (n / 10)) (ltb n 10) refl
 
 pub one-digit : (n : ℕ) → n < 10 → decimal n ≡ (48 + n) ∷ []
 unfolding decimal digitsBy
-one-digit n h = rw (lt-ltb n 10 h)
+one-digit n h = rw (lt-ltb n 10 h, digitsBy)
 
 pub more-digits : (n : ℕ) → 10 ≤ n → decimal n ≡ decimal (n / 10) ++ ((48 + n % 10) ∷ [])
 unfolding decimal digitsBy
 more-digits n h =
-    rw (le-ltb n 10 h) (ap (λ (l : List ℕ). l ++ ((48 + n % 10) ∷ [])) (by-most n (suc (n / 10)) (n / 10) (omega arith) (omega arith)))
+    rw (le-ltb n 10 h, digitsBy) (ap (λ (l : List ℕ). l ++ ((48 + n % 10) ∷ [])) (by-most n (suc (n / 10)) (n / 10) (omega arith) (omega arith)))
 
 -- a number with i digits at most that has more than one: it has two at least, and a tenth of it has one fewer
 pub tenth : (n i : ℕ) → 10 ≤ n → n < 10 ^ i → (2 ≤ i) × (n / 10 < 10 ^ (i - 1))
