@@ -65,13 +65,12 @@ fn list_deck(deck: &[u8], out: &mut [u8]) {
     let mut position: usize = 0;
     let mut n: usize = 0;
     loop {
-        let item = reader::step(deck, position, &mut room);
-        n = listing::item_lines(out, n, position, item, &room);
-        let passed = reader::item_blocks(item);
-        if passed == 0 {
+        let step = listing::next_lines(out, n, deck, position, &mut room);
+        n = step.end;
+        if step.passed == 0 {
             break;
         }
-        position += passed;
+        position += step.passed;
         if out.len() - n < ITEM {
             if !write(out, n) {
                 return;

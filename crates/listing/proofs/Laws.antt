@@ -4,3 +4,4 @@ pub mod Decimal
 pub mod Entries
 pub mod Lines
 pub mod Listing
+pub mod Steps

@@ -3,3 +3,4 @@ pub mod Texts
 pub mod Putting
 pub mod Lines
 pub mod Listing
+pub mod Steps

@@ -1,6 +1,5 @@
--- The listing as it is put together, step by step.
+-- What the listing asks, and what it leaves unasked.
 --     room-lines       the lines of an item, read from the room that its step leaves, are those of the report
---     walk-lines       the lines of all steps along the walk, and the total, are the listing
 --     listing-room     the listing asks nothing of the room but its length
 --     found-entries    of a record that is accepted, the entries whose lines are listed are its findings
 -- Assumes nothing.
@@ -27,10 +26,10 @@ use Rattle.lint.specs.declared.linting.Answer.the-variants.{Report, Refused}
 use Rattle.reader.specs.Runs.{blocks}
 use Rattle.reader.specs.Events.{Event, events}
 use Rattle.reader.specs.Counting.{tallyOf}
-use Rattle.reader.specs.Walking.{Handed, reportIn, walk, allHandedOver}
+use Rattle.reader.specs.Walking.{Handed, reportIn, allHandedOver}
 use Rattle.reader.specs.declared.stepping.Item.{Item}
 use Rattle.reader.specs.declared.stepping.Item.the-variants as Items
-use Rattle.reader.proofs.Laws.Walking.{same-handed, walked}
+use Rattle.reader.proofs.Laws.Walking.{same-handed}
 use Rattle.listing.proofs.Laws.Entries.{made-same}
 use Rattle.listing.specs.Lines.{recordLine, totalLine}
 use Rattle.listing.specs.Listing.{findingLines, entriesOf, recordLines, itemLines, linesOf, listingOf}
@@ -63,10 +62,6 @@ unfolding recordLines
 room-lines position (Items.Record r) room = ap (λ (es : List Entry). recordLine r ++ findingLines es) (sym (entries-room (r .answer) room))
 room-lines position (Items.Lost loss) room = refl
 room-lines position Items.End room = refl
-
-pub walk-lines : (deck room : List ℕ) (steps : ℕ) → length (blocks deck) ≤ steps → linesOf (walk steps deck 0 room) ++ totalLine (tallyOf deck) (length (blocks deck)) ≡ listingOf deck room
-unfolding listingOf
-walk-lines deck room steps h = ap (λ (hs : List Handed). linesOf hs ++ totalLine (tallyOf deck) (length (blocks deck))) (walked deck room steps h)
 
 -- ---- the room
 

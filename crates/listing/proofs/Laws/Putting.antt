@@ -3,6 +3,7 @@
 --     put-nothing, _⨾_     no text; one text behind the other
 --     put-next, put-all    a text put octet by octet
 --     put-whole            where the buffer is large enough the text stands at its place, and all else is as it was
+--     put-inside           the place behind a text is in the buffer, if the place before it is
 --     one-answer           any two answers and buffers that the contract of such a function allows coincide
 -- Assumes nothing.
 use mathlib.Core.Path.{_≡_, refl, sym, ap, _∙_}
@@ -81,6 +82,11 @@ module _ {bs : List ℕ} {n r : ℕ} {out last : List ℕ} (p : Put bs n out r l
   pub put-whole : n + length bs ≤ length out → (r ≡ n + length bs) × (last ≡ take n out ++ bs ++ drop (n + length bs) out)
   unfolding placeAfter bufferAfter
   put-whole h = (p .place ∙ omega arith, p .octets ∙ sets-eq bs out n h)
+
+  -- the place behind a text that starts inside the buffer is inside it
+  pub put-inside : n ≤ length out → r ≤ length out
+  unfolding placeAfter
+  put-inside h = let e : r ≡ max n (min (n + length bs) (length out)) = p .place in omega arith
 
   pub one-answer : {r′ : ℕ} {last′ : List ℕ} → Put bs n out r′ last′ → (r ≡ r′) × (last ≡ last′)
   one-answer q = (p .place ∙ sym (q .place), p .octets ∙ sym (q .octets))
