@@ -1,5 +1,6 @@
 -- The listing step by step.
 --     step-listed     one step, by what the reader's step says, the lines that are put and the blocks that are passed
+--     listed-within, listed-inside     a step does not pass the deck's end, and its lines end in the buffer
 --     one-step        S11: any two answers that a step's contract allows coincide, and so do room and buffer
 --     all-listed      the lines of the steps from the first block to the end of the deck, and the last line, are the listing
 -- Assumes nothing.
@@ -22,13 +23,13 @@ use Rattle.reader.specs.Walking.{Handed, reportIn, handedAt, unlessEnd, walk}
 use Rattle.reader.specs.declared.stepping.Item.{Item}
 use Rattle.reader.specs.declared.stepping.Item.the-variants as Items
 use Rattle.reader.proofs.Laws.Walking.{walked}
-use Rattle.reader.proofs.Laws.Passing.{item-blocks, item-moves}
+use Rattle.reader.proofs.Laws.Passing.{item-blocks, item-within, item-moves}
 use Rattle.listing.specs.Putting.{Put}
 use Rattle.listing.specs.Lines.{totalLine}
 use Rattle.listing.specs.Listing.{itemLines, linesOf, listingOf}
 use Rattle.listing.specs.Steps.{linesAt, passedAt, Listed, steppedLines}
 use Rattle.listing.specs.declared.steps.Step.{Step}
-use Rattle.listing.proofs.Laws.Putting.{one-answer}
+use Rattle.listing.proofs.Laws.Putting.{put-inside, one-answer}
 use Rattle.listing.proofs.Laws.Listing.{room-lines}
 
 module _ {deck room out : List ℕ} {position n : ℕ} where
@@ -41,6 +42,12 @@ module _ {deck room out : List ℕ} {position n : ℕ} where
         blocks = b ∙ ap itemBlocks (s .told);
         bytes = s .bytes;
       }
+
+  pub listed-within : {r : Step} {left last : List ℕ} → Listed deck position n room out r left last → 512 * position ≤ length deck + 511 → 512 * (position + r .passed) ≤ length deck + 511
+  listed-within l h = rw (l .blocks) (item-within deck position room h)
+
+  pub listed-inside : {r : Step} {left last : List ℕ} → Listed deck position n room out r left last → n ≤ length out → r .end ≤ length out
+  listed-inside l h = put-inside (l .lines) h
 
   pub one-step : {r r′ : Step} {left left′ last last′ : List ℕ} → Listed deck position n room out r left last → Listed deck position n room out r′ left′ last′ → (r ≡ r′) × (left ≡ left′) × (last ≡ last′)
   one-step a b =
