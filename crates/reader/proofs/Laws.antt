@@ -6,4 +6,5 @@ pub mod Gathering
 pub mod Stepping
 pub mod Walking
 pub mod Counts
+pub mod Passing
 pub mod Exact

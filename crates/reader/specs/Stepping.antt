@@ -6,7 +6,7 @@ use mathlib.Core.Path.{_≡_}
 use Prim.Native.Nat.{ℕ, _*_}
 use lib.Dec.{ltb}
 use lib.ListN.{length}
-use Rattle.blocks.specs.Record.{profileIn, certificateIn, issuerIn}
+use Rattle.blocks.specs.Record.{parts, profileIn, certificateIn, issuerIn}
 use Rattle.lint.specs.Answers.{answerOf, roomOf}
 use Rattle.reader.specs.Runs.{from, starts}
 use Rattle.reader.specs.Events.{Event, record-at, lost-at, eventIf}
@@ -35,6 +35,12 @@ itemOf room (lost-at position loss) = Items.Lost loss
 abbrev pub roomAfter : List ℕ → Event → List ℕ
 roomAfter room (record-at position number p) = lintedRoom p room
 roomAfter room (lost-at position loss) = room
+
+-- how many blocks are passed with an item
+abbrev pub itemBlocks : Item → ℕ
+itemBlocks (Items.Record r) = parts (r .length)
+itemBlocks (Items.Lost loss) = 1
+itemBlocks Items.End = 0
 
 -- what stands at a position
 abbrev pub eventAt : List ℕ → ℕ → Event

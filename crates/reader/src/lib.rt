@@ -12,4 +12,5 @@ pub use finding::blocks_in;
 pub use finding::find;
 pub use stepping::Item;
 pub use stepping::Record;
+pub use stepping::item_blocks;
 pub use stepping::step;

@@ -11,7 +11,7 @@ ghost use Rattle.blocks.specs.Record.{certificateLength};
 ghost use Rattle.reader.specs.Runs.{from, dataFrom, recordFrom};
 ghost use Rattle.reader.specs.Finding.{foundAt};
 ghost use Rattle.reader.specs.declared.finding.Found.the-variants as Found;
-ghost use Rattle.reader.specs.Stepping.{Stepped, Linted};
+ghost use Rattle.reader.specs.Stepping.{Stepped, Linted, itemBlocks};
 
 pub struct Record {
     pub number: usize,
@@ -75,5 +75,16 @@ pub fn step(deck: &[u8], position: usize, room: &mut [u8]) -> Item
         Found::Record(number, n) => Item::Record(lint_record(deck, position, number, n, room)),
         Found::Lost(loss) => Item::Lost(loss),
         Found::End => Item::End,
+    }
+}
+
+// How many blocks are passed with an item: the next one stands so much further.
+pub fn item_blocks(item: Item) -> usize
+    ensures { λ r. ⌜ r ≡ itemBlocks item ⌝ }
+{
+    match item {
+        Item::Record(record) => blocks::parts_of(record.length),
+        Item::Lost(_) => 1,
+        Item::End => 0,
     }
 }

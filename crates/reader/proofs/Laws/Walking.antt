@@ -1,5 +1,6 @@
 -- Stepping through a whole deck, the same room lent again at each step.
---     walked     it hands out the events of the deck, each as in the room at the start
+--     same-handed     in a room as long an event is handed over the same
+--     walked          it hands out the events of the deck, each as in the room at the start
 -- Assumes nothing.
 use mathlib.Core.Path.{_≡_, refl, sym, ap, ap₂, _∙_}
 use mathlib.Core.Bool.{Bool, true, false}
@@ -27,8 +28,7 @@ use Rattle.reader.proofs.Laws.Places.{from-cons, from-nil}
 
 -- ---- an event is handed out
 
--- in a room as long it is handed over the same
-same-handed : (room other : List ℕ) → length room ≡ length other → (e : Event) → handedOver room e ≡ handedOver other e
+pub same-handed : (room other : List ℕ) → length room ≡ length other → (e : Event) → handedOver room e ≡ handedOver other e
 unfolding lintedRoom
 same-handed room other h (record-at position number p) =
     ap₂ (λ (a : Answer) (report : List ℕ). record { position = position; item = Items.Record (record { number = number; profile = profileIn p; length = length p; answer = a }); report = report })

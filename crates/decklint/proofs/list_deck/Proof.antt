@@ -1,0 +1,142 @@
+-- `decklint::list_deck` is safe and ends. The measure is what is left of the deck. The invariant: buffer and room keep their lengths, the
+-- position is not past the deck, and what waits is in the buffer. Assumes nothing.
+use mathlib.Core.Path.{_≡_, refl, sym, _∙_}
+use Prim.Native.Nat.{_+_, _-_, _*_, _≤_}
+use native.Mathlib.Omega.{arith}
+use lib.ListN.{length}
+use borrow.Author.Needs.{needs}
+use Rattle.listing.proofs.Laws.Putting.{put-inside}
+use Rattle.listing.proofs.Laws.Steps.{listed-within, listed-inside}
+use Rattle.decklint.proofs.list_deck.Statement.{statement}
+use Rattle.decklint.proofs.list_deck.Tie as tie
+
+abbrev Inv-loop : tie.InvT-loop
+Inv-loop deck out₀ room₀ position₀ n₀ out room position n = (length out ≡ length out₀) × (length room ≡ 65536) × (512 * position ≤ length deck + 511) × (n ≤ length out)
+
+abbrev μ-loop : tie.MeasureT-loop
+μ-loop deck out₀ room₀ position₀ n₀ out room position n = length deck + 512 - 512 * position
+
+large-buffer-requires : tie.Need-large-buffer-requires Inv-loop μ-loop
+large-buffer-requires c κs = search needs
+
+loop-holds : tie.Need-loop-holds Inv-loop μ-loop
+loop-holds c = (refl, sym (c .large-buffer .ensures), omega arith, omega arith)
+
+slice-aggregate-next-lines : tie.Need-slice-aggregate-next-lines Inv-loop μ-loop
+slice-aggregate-next-lines c = sym (c .before .before .loop .inv .1)
+
+next-lines-requires : tie.Need-next-lines-requires Inv-loop μ-loop
+next-lines-requires c κs = search needs
+
+add-position : tie.Need-add-position Inv-loop μ-loop
+add-position c =
+    let next = c .before .before .before .before .before .before in
+    let l = next .before .before .before in
+    let within = listed-within (next .next-lines .ensures) (l .loop .inv .2) in
+    let inside = listed-inside (next .next-lines .ensures) (l .loop .inv .3) in
+    let kept = next .next-lines .kept in omega (arith, within)
+
+sub-if2 : tie.Need-sub-if2 Inv-loop μ-loop
+sub-if2 c =
+    let next = c .before .before .before .before .before .before in
+    let l = next .before .before .before in
+    let within = listed-within (next .next-lines .ensures) (l .loop .inv .2) in
+    let inside = listed-inside (next .next-lines .ensures) (l .loop .inv .3) in
+    let kept = next .next-lines .kept in omega (arith, inside, kept .0)
+
+write-requires : tie.Need-write-requires Inv-loop μ-loop
+write-requires c κs =
+    let next = c .before .before .before .before .before .before .before .before in
+    let l = next .before .before .before in
+    let within = listed-within (next .next-lines .ensures) (l .loop .inv .2) in
+    let inside = listed-inside (next .next-lines .ensures) (l .loop .inv .3) in
+    let kept = next .next-lines .kept in omega (arith, inside, kept .0)
+
+same-length : tie.Need-same-length Inv-loop μ-loop
+same-length c = let next = c .before .before .before .before .before .before .before .before .before .before in next .next-lines .kept .0 ∙ next .before .before .before .loop .inv .0
+
+returns : tie.Need-returns Inv-loop μ-loop
+returns c = tt
+
+loop-less : tie.Need-loop-less Inv-loop μ-loop
+loop-less c =
+    let next = c .before .before .before .before .before .before .before .before .before .before in
+    let l = next .before .before .before in
+    let within = listed-within (next .next-lines .ensures) (l .loop .inv .2) in
+    let inside = listed-inside (next .next-lines .ensures) (l .loop .inv .3) in
+    let kept = next .next-lines .kept in omega (arith, within)
+
+loop-again : tie.Need-loop-again Inv-loop μ-loop
+loop-again c =
+    let next = c .before .before .before .before .before .before .before .before .before .before in
+    let l = next .before .before .before in
+    let within = listed-within (next .next-lines .ensures) (l .loop .inv .2) in
+    let inside = listed-inside (next .next-lines .ensures) (l .loop .inv .3) in
+    let kept = next .next-lines .kept in
+    (kept .0 ∙ l .loop .inv .0, kept .1 .1 .1 .1 .0 ∙ l .loop .inv .1, within, omega arith)
+
+loop-less-2 : tie.Need-loop-less-2 Inv-loop μ-loop
+loop-less-2 c =
+    let next = c .before .before .before .before .before .before .before in
+    let l = next .before .before .before in
+    let within = listed-within (next .next-lines .ensures) (l .loop .inv .2) in
+    let inside = listed-inside (next .next-lines .ensures) (l .loop .inv .3) in
+    let kept = next .next-lines .kept in omega (arith, within)
+
+loop-again-2 : tie.Need-loop-again-2 Inv-loop μ-loop
+loop-again-2 c =
+    let next = c .before .before .before .before .before .before .before in
+    let l = next .before .before .before in
+    let within = listed-within (next .next-lines .ensures) (l .loop .inv .2) in
+    let inside = listed-inside (next .next-lines .ensures) (l .loop .inv .3) in
+    let kept = next .next-lines .kept in
+    (kept .0 ∙ l .loop .inv .0, kept .1 .1 .1 .1 .0 ∙ l .loop .inv .1, within, omega (arith, inside, kept .0))
+
+tally-requires : tie.Need-tally-requires Inv-loop μ-loop
+tally-requires c κs = search needs
+
+block-count-requires : tie.Need-block-count-requires Inv-loop μ-loop
+block-count-requires c κs = search needs
+
+total-line-requires : tie.Need-total-line-requires Inv-loop μ-loop
+total-line-requires c κs = search needs
+
+write-requires-2 : tie.Need-write-requires-2 Inv-loop μ-loop
+write-requires-2 c κs =
+    let next = c .before .before .before .before .before .before .before .before .before .before .before .before in
+    let l = next .before .before .before in
+    let within = listed-within (next .next-lines .ensures) (l .loop .inv .2) in
+    let inside = listed-inside (next .next-lines .ensures) (l .loop .inv .3) in
+    let kept = next .next-lines .kept in omega (arith, put-inside (c .before .before .before .total-line .ensures) (omega (arith, inside, kept .0)), c .before .before .before .total-line .kept .0)
+
+same-length-2 : tie.Need-same-length-2 Inv-loop μ-loop
+same-length-2 c = let next = c .before .before .before .before .before .before .before .before .before .before .before .before .before in c .before .before .before .before .total-line .kept .0 ∙ next .next-lines .kept .0 ∙ next .before .before .before .loop .inv .0
+
+returns-2 : tie.Need-returns-2 Inv-loop μ-loop
+returns-2 c = tt
+
+pub list-deck-spec : {M : Type 1} → statement M
+list-deck-spec =
+    tie.close
+    (tie.spec
+    Inv-loop
+    μ-loop
+    large-buffer-requires
+    loop-holds
+    slice-aggregate-next-lines
+    next-lines-requires
+    add-position
+    sub-if2
+    write-requires
+    same-length
+    returns
+    loop-less
+    loop-again
+    loop-less-2
+    loop-again-2
+    tally-requires
+    block-count-requires
+    total-line-requires
+    write-requires-2
+    same-length-2
+    returns-2)

@@ -1,0 +1,100 @@
+// Lists the deck on standard input (document 01, "The deck").
+//
+// Nothing is printed before the whole deck has been read: where a read fails, standard output stays empty. Where a write
+// fails the program ends there, so a listing that was cut short lacks its last line. Either is said on standard error;
+// a program has no other way to say it, since its exit status is always 0.
+use libc::STDIN_FILENO;
+use libc::STDOUT_FILENO;
+ghost use Prim.Native.Nat.{_≤_};
+ghost use lib.ListN.{length};
+
+// "It lends the linter 65,536 octets of room and takes as much of deck".
+const MOST: usize = 65536;
+
+// One octet more tells a deck that is too long.
+const SPACE: usize = 65537;
+
+// So many octets hold all lines of any item whose findings fit in the linter's room (`item-whole` of the crate
+// `listing`), and the last line too.
+const ITEM: usize = 327741;
+
+// Lines wait here to be written, so that there are few writes.
+const WAITING: usize = 393216;
+
+// How many octets were read, and whether a read failed after them.
+struct Input {
+    n: usize,
+    failed: bool,
+}
+
+// Reads to the end of the input, or until the space is full.
+fn read_all(space: &mut [u8]) -> Input
+    ensures { λ r. ⌜ r .n ≤ length (now (space .exit)) ⌝ }
+{
+    let mut n: usize = 0;
+    while n < space.len() {
+        let got = libc::read(STDIN_FILENO, &mut space[n..]);
+        let more = io::count(got, &space[n..]);
+        if more == 0 {
+            return Input {
+                n: n,
+                failed: got < 0,
+            };
+        }
+        n += more;
+    }
+    Input {
+        n: n,
+        failed: false,
+    }
+}
+
+// Writes the first n octets, and answers whether it could.
+fn write(out: &[u8], n: usize) -> bool
+    requires { ⌜ n ≤ length (now out) ⌝ }
+{
+    let written = io::write_all(STDOUT_FILENO, &out[..n]);
+    if !written {
+        os::fail(b"standard output");
+    }
+    written
+}
+
+fn list_deck(deck: &[u8], out: &mut [u8]) {
+    let mut room = io::large_buffer();
+    let mut position: usize = 0;
+    let mut n: usize = 0;
+    loop {
+        let step = listing::next_lines(out, n, deck, position, &mut room);
+        n = step.end;
+        if step.passed == 0 {
+            break;
+        }
+        position += step.passed;
+        if out.len() - n < ITEM {
+            if !write(out, n) {
+                return;
+            }
+            n = 0;
+        }
+    }
+    let end = listing::total_line(out, n, reader::tally(deck), reader::block_count(deck));
+    write(out, end);
+}
+
+fn main() {
+    let mut space = [0u8; SPACE];
+    let mut out = [0u8; WAITING];
+    let input = read_all(&mut space);
+    if input.failed {
+        os::fail(b"standard input");
+        return;
+    }
+    let n = input.n;
+    if n <= MOST {
+        list_deck(&space[..n], &mut out);
+    } else {
+        let end = listing::too_long(&mut out, 0);
+        write(&out, end);
+    }
+}

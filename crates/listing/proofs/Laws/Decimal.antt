@@ -1,0 +1,175 @@
+-- Numbers in decimal.
+--     one-digit, more-digits     a number below 10, and one above
+--     tenth                      where there is a digit more, there is room for it
+--     Begun, begin, digit-on, digit-last, still-long, digits-put     digits written from the last one on, to the end of a space of 20 octets
+--     decimal-right              the digits say the number
+--     no-zero-first              the first digit of a number above 0 is not 0
+--     all-digits                 each octet is one of 48 to 57
+--     decimal-long, wide-long    how many digits: at most k below 10 ^ k, so at most 20 below 2 ^ 64
+-- Assumes nothing.
+use mathlib.Core.Path.{_≡_, refl, sym, ap, ap₂, subst, _∙_}
+use mathlib.Core.List.{List, [], _∷_, _++_, append-nil}
+use mathlib.Core.Bool.{Bool, true, false}
+use Prim.Native.Nat.{ℕ, zero, suc, _+_, _-_, _*_, _/_, _%_, _^_, _≤_, _<_}
+use native.Mathlib.Nat.{pow-suc}
+use native.Mathlib.Omega.{arith}
+use lib.ListN.{length, getD, set, take, drop, length-append, length-set, length-drop, drop-of-length-le, List·getD-append}
+use lib.Seq.{take-all, drop-cons, drop-set-lt, getD-set-same, append-snoc}
+use lib.Dec.{ltb}
+use borrow.Author.Tests.{lt-ltb, le-ltb, ltb-true, ltb-false}
+use Rattle.listing.specs.Texts.{digitsBy, decimal}
+use Rattle.listing.specs.Putting.{Put}
+
+-- the digits are the same, however many more there might be
+by-most : (f g n : ℕ) → n < f → n < g → digitsBy f n ≡ digitsBy g n
+unfolding digitsBy
+by-most zero g n h l = absurd (omega arith)
+by-most (suc f) zero n h l = absurd (omega arith)
+by-most (suc f) (suc g) n h l = go (by-most f g (n / 10)) (ltb n 10) refl
+  where
+    go : (n / 10 < f → n / 10 < g → digitsBy f (n / 10) ≡ digitsBy g (n / 10)) → (t : Bool) → ltb n 10 ≡ t
+        → _≡_ {A = List ℕ} (elim t [ true ↦ (48 + n) ∷ [] | false ↦ digitsBy f (n / 10) ++ ((48 + n % 10) ∷ []) ]) (elim t [ true ↦ (48 + n) ∷ [] | false ↦ digitsBy g (n / 10) ++ ((48 + n % 10) ∷ []) ])
+    go e true t = refl
+    go e false t =
+        let k : 10 ≤ n = ltb-false n 10 t in
+        ap (λ (l : List ℕ). l ++ ((48 + n % 10) ∷ [])) (e (omega arith) (omega arith))
+
+pub one-digit : (n : ℕ) → n < 10 → decimal n ≡ (48 + n) ∷ []
+unfolding decimal digitsBy
+one-digit n h = rw (lt-ltb n 10 h, digitsBy)
+
+pub more-digits : (n : ℕ) → 10 ≤ n → decimal n ≡ decimal (n / 10) ++ ((48 + n % 10) ∷ [])
+unfolding decimal digitsBy
+more-digits n h =
+    rw (le-ltb n 10 h, digitsBy) (ap (λ (l : List ℕ). l ++ ((48 + n % 10) ∷ [])) (by-most n (suc (n / 10)) (n / 10) (omega arith) (omega arith)))
+
+-- a number with i digits at most that has more than one: it has two at least, and a tenth of it has one fewer
+pub tenth : (n i : ℕ) → 10 ≤ n → n < 10 ^ i → (2 ≤ i) × (n / 10 < 10 ^ (i - 1))
+tenth n zero h l = absurd (omega arith)
+tenth n (suc zero) h l = absurd (omega arith)
+tenth n (suc (suc i)) h l =
+    let k : n < 10 ^ suc i * 10 = rw (pow-suc 10 (suc i)) at l in
+    let t : n / 10 < 10 ^ suc i = omega arith in
+    let e : suc (suc i) - 1 ≡ suc i = omega arith in
+    (omega arith, rw e t)
+
+-- ---- digits written from the last one on, to the end of a space of 20 octets
+
+-- those from place i on are written, and `rest` is left to be written before them
+pub record Begun (x : ℕ) (space : List ℕ) (rest i : ℕ) : Type 0 where
+  pub long : length space ≡ 20
+  pub digits : decimal rest ++ drop i space ≡ decimal x
+  pub enough : rest < 10 ^ i
+  pub some : 1 ≤ i
+  pub most : i ≤ 20
+
+pub begin : (x : ℕ) (space : List ℕ) → length space ≡ 20 → x < 2 ^ 64 → Begun x space x 20
+begin x space l h =
+    record {
+      long = l;
+      digits = ap (λ (t : List ℕ). decimal x ++ t) (drop-of-length-le space {i = 20} (omega arith)) ∙ append-nil (decimal x);
+      enough = omega arith;
+      some = omega arith;
+      most = omega arith;
+    }
+
+drop-set : (l : List ℕ) (i b : ℕ) → i < length l → drop i (set l i b) ≡ b ∷ drop (suc i) l
+drop-set l i b h =
+    drop-cons (set l i b) i 0 (rw (length-set l i b) h)
+    ∙ ap₂ (λ (c : ℕ) (t : List ℕ). c ∷ t) (getD-set-same l i b 0 h) (drop-set-lt (suc i) l i b (omega arith))
+
+module _ {x : ℕ} {space : List ℕ} {rest i : ℕ} (w : Begun x space rest i) where
+  abbrev with-digit : ℕ → List ℕ
+  with-digit d = set space (i - 1) (48 + d)
+
+  in-front : (d : ℕ) → drop (i - 1) (with-digit d) ≡ (48 + d) ∷ drop i space
+  in-front d =
+      let e : suc (i - 1) ≡ i = omega (arith, w .some) in
+      drop-set space (i - 1) (48 + d) (omega (arith, w .long, w .some, w .most)) ∙ ap (λ (k : ℕ). (48 + d) ∷ drop k space) e
+
+  pub still-long : (d : ℕ) → length (with-digit d) ≡ 20
+  still-long d = length-set space (i - 1) (48 + d) ∙ w .long
+
+  pub digit-on : 10 ≤ rest → Begun x (with-digit (rest % 10)) (rest / 10) (i - 1)
+  digit-on h =
+      let t = tenth rest i h (w .enough) in
+      record {
+        long = still-long (rest % 10);
+        digits =
+            ap (λ (l : List ℕ). decimal (rest / 10) ++ l) (in-front (rest % 10))
+            ∙ sym (append-snoc (decimal (rest / 10)) (48 + rest % 10) (drop i space))
+            ∙ ap (λ (l : List ℕ). l ++ drop i space) (sym (more-digits rest h))
+            ∙ w .digits;
+        enough = t .1;
+        some = omega (arith, t .0);
+        most = omega (arith, w .most);
+      }
+
+  pub digit-last : rest < 10 → (drop (i - 1) (with-digit rest) ≡ decimal x) × (i - 1 < 20)
+  digit-last h =
+      (in-front rest ∙ ap (λ (l : List ℕ). l ++ drop i space) (sym (one-digit rest h)) ∙ w .digits, omega (arith, w .some, w .most))
+
+pub digits-put : (x at : ℕ) (space : List ℕ) {n r : ℕ} {out last : List ℕ} → length space ≡ 20 → drop at space ≡ decimal x → Put (take (20 - at) (drop at space)) n out r last → Put (decimal x) n out r last
+digits-put x at space {n} {r} {out} {last} l e p =
+    let all : length (drop at space) ≤ 20 - at = simp (length-drop, l) (omega arith) in
+    subst (λ (t : List ℕ). Put t n out r last) (take-all (20 - at) (drop at space) all ∙ e) p
+
+-- ---- what the digits say
+
+abbrev pub saidFrom : ℕ → List ℕ → ℕ
+saidFrom n [] = n
+saidFrom n (b ∷ bs) = saidFrom (10 * n + (b - 48)) bs
+
+said-snoc : (n : ℕ) (bs : List ℕ) (b : ℕ) → saidFrom n (bs ++ (b ∷ [])) ≡ 10 * saidFrom n bs + (b - 48)
+said-snoc n [] b = refl
+said-snoc n (c ∷ bs) b = said-snoc (10 * n + (c - 48)) bs b
+
+-- what holds of each number below 10, and of any other if it holds of a tenth of it
+module _ (P : ℕ → Type 0) (one : (n : ℕ) → n < 10 → P n) (more : (n : ℕ) → 10 ≤ n → P (n / 10) → P n) where
+  below : (f n : ℕ) → n < f → P n
+  below zero n h = absurd (omega arith)
+  below (suc f) n h = go (below f (n / 10)) (ltb n 10) refl
+    where
+      go : (n / 10 < f → P (n / 10)) → (t : Bool) → ltb n 10 ≡ t → P n
+      go before true t = one n (ltb-true n 10 t)
+      go before false t = let k : 10 ≤ n = ltb-false n 10 t in more n k (before (omega arith))
+
+  by-tenths : (n : ℕ) → P n
+  by-tenths n = below (suc n) n (omega arith)
+
+pub decimal-right : (n : ℕ) → saidFrom 0 (decimal n) ≡ n
+decimal-right =
+    by-tenths (λ (n : ℕ). saidFrom 0 (decimal n) ≡ n)
+    (λ (n : ℕ) (h : n < 10). rw (one-digit n h) (omega arith))
+    (λ (n : ℕ) (h : 10 ≤ n) (e : saidFrom 0 (decimal (n / 10)) ≡ n / 10). rw (more-digits n h, said-snoc 0 (decimal (n / 10)) (48 + n % 10), e) (omega arith))
+
+-- ---- their number, and the first
+
+pub decimal-long : (n k : ℕ) → n < 10 ^ k → 0 < k → length (decimal n) ≤ k
+decimal-long n zero h l = absurd (omega arith)
+decimal-long n (suc k) h l = go (decimal-long (n / 10) k) (ltb n 10) refl
+  where
+    go : (n / 10 < 10 ^ k → 0 < k → length (decimal (n / 10)) ≤ k) → (t : Bool) → ltb n 10 ≡ t → length (decimal n) ≤ suc k
+    go before true t = rw (one-digit n (ltb-true n 10 t)) (omega arith)
+    go before false t =
+        let b : 10 ≤ n = ltb-false n 10 t in
+        let e : suc k - 1 ≡ k = omega arith in
+        let shorter = tenth n (suc k) b h in
+        let less : n / 10 < 10 ^ k = rw e at (shorter .1) in
+        rw (more-digits n b, length-append) (omega (arith, before less (omega (arith, shorter .0))))
+
+pub digit-first : (n : ℕ) → 0 < n → 48 < getD (decimal n) 0 0
+digit-first =
+    by-tenths (λ (n : ℕ). 0 < n → 48 < getD (decimal n) 0 0)
+    (λ (n : ℕ) (h : n < 10) (l : 0 < n). rw (one-digit n h) (omega arith))
+    (λ (n : ℕ) (h : 10 ≤ n) (e : 0 < n / 10 → 48 < getD (decimal (n / 10)) 0 0) (l : 0 < n).
+    let some = e (omega arith) in
+    rw (more-digits n h, List·getD-append (decimal (n / 10)) ((48 + n % 10) ∷ []) 0 0 (longer (decimal (n / 10)) some)) some)
+  where
+    longer : (bs : List ℕ) → 48 < getD bs 0 0 → 0 < length bs
+    longer [] h = absurd (omega arith)
+    longer (b ∷ bs) h = omega arith
+
+-- each octet is a digit of ASCII
+unfoldable pub Digits : List ℕ → Type 0
+Digits bs = (i : ℕ) → i < length bs → (48 ≤ getD bs i 0) × (getD bs i 0 ≤ 57)

@@ -1,0 +1,206 @@
+-- How long the lines are.
+--     wide-long                 a number below 2 ^ 64 has at most 20 digits
+--     finding-long, record-long, lost-long, total-long, too-long-long     each line, of numbers that the code can hold
+--     findings-long, item-long  all lines of k findings, and of an item that counts k
+--     count-fits, item-whole    what the reader hands over in 65,536 octets of room counts no more findings than fit there, so that
+--                               327,741 octets hold its lines
+-- Assumes nothing.
+use mathlib.Core.Path.{_≡_, refl, ap, _∙_}
+use mathlib.Core.Bool.{Bool, true, false, cond}
+use mathlib.Core.List.{List, [], _∷_, _++_}
+use Prim.Native.Nat.{ℕ, zero, suc, _+_, _*_, _^_, _≤_, _<_}
+use native.Mathlib.Omega.{arith}
+use lib.ListN.{length, drop, length-append}
+use lib.Seq.{getD-drop}
+use lib.Dec.{ltb}
+use borrow.Author.Tests.{leb-true}
+use Rattle.octets.specs.Octets.{octetAt}
+use Rattle.octets.specs.Numbers.{pairAt}
+use Rattle.report.specs.Entries.{width, decode}
+use Rattle.report.specs.Answers.{fits}
+use Rattle.report.specs.declared.sink.Entry.{Entry}
+use Rattle.lint.specs.Refusals.{numberOf, sideNumber, sideOf, placeOf}
+use Rattle.lint.specs.Findings.{findings}
+use Rattle.lint.specs.Judging.{judgementOf}
+use Rattle.lint.specs.Answers.{answerTo, answerBy, answerOf}
+use Rattle.lint.specs.declared.judging.Judgement.{Judgement}
+use Rattle.lint.specs.declared.judging.Judgement.the-variants as Judgements
+use Rattle.lint.specs.declared.refusals.Side.{Side}
+use Rattle.lint.specs.declared.refusals.Side.the-variants.{Certificate, Issuer}
+use Rattle.lint.specs.declared.refusals.Refusal.{Refusal}
+use Rattle.lint.specs.declared.refusals.Refusal.the-variants.{CertificateLength, IssuerLength, UnknownProfile, Unsound, Unordered, NotCertificate, NoRoom, NoNumber}
+use Rattle.lint.specs.declared.linting.Answer.{Answer}
+use Rattle.lint.specs.declared.linting.Answer.the-variants.{Report, Refused}
+use Rattle.reader.specs.declared.finding.Loss.{Loss}
+use Rattle.reader.specs.declared.finding.Loss.the-variants.{Short, Unsound, Stray}
+use Rattle.blocks.specs.Record.{profileIn, certificateIn, issuerIn}
+use Rattle.reader.specs.Events.{Event, record-at, lost-at}
+use Rattle.reader.specs.Stepping.{itemOf, eventAt, itemAt}
+use Rattle.reader.specs.declared.stepping.Record.{Record}
+use Rattle.reader.specs.declared.stepping.Item.{Item}
+use Rattle.reader.specs.declared.stepping.Item.the-variants as Items
+use Rattle.reader.specs.declared.counting.Counts.{Counts}
+use Rattle.listing.specs.Texts.{word, decimal}
+use Rattle.listing.specs.Lines.{fieldOf, findingLine, refusalText, answerText, recordLine, lostLine, totalLine, tooLongLine}
+use Rattle.listing.specs.Listing.{findingLines, entriesOf, recordLines, itemLines}
+use Rattle.listing.proofs.Laws.Decimal.{decimal-long}
+use Rattle.listing.proofs.Laws.Entries.{made}
+
+pub wide-long : (n : ℕ) → n < 2 ^ 64 → length (decimal n) ≤ 20
+wide-long n h = decimal-long n 20 (omega arith) (omega arith)
+
+-- a field in front of a text
+field-long : (w : List ℕ) (n k : ℕ) (rest : List ℕ) → n < 10 ^ k → 0 < k → length ((w ++ decimal n) ++ rest) ≤ length w + k + length rest
+field-long w n k rest h l = rw (length-append, length-append) (omega (arith, decimal-long n k h l))
+
+pub finding-long : (e : Entry) → e .rule < 65536 → e .place .start < 65536 → e .place .len < 65536 → length (findingLine e) ≤ 30
+unfolding findingLine word
+finding-long e r s l =
+    let a = field-long (word " length ") (e .place .len) 5 (word "\n") (omega arith) (omega arith) in
+    let b = field-long (word " at ") (e .place .start) 5 (fieldOf " length " (e .place .len) ++ word "\n") (omega arith) (omega arith) in
+    let c = field-long (word "  ") (e .rule) 5 (fieldOf " at " (e .place .start) ++ (fieldOf " length " (e .place .len) ++ word "\n")) (omega arith) (omega arith) in
+    omega (arith, a, b, c)
+
+pub lost-long : (position : ℕ) (loss : Loss) → position < 2 ^ 64 → length (lostLine position loss) ≤ 34
+unfolding lostLine word
+lost-long position Short h = omega (arith, field-long (word "lost ") position 20 (word " short\n") (omega arith) (omega arith))
+lost-long position Unsound h = omega (arith, field-long (word "lost ") position 20 (word " unsound\n") (omega arith) (omega arith))
+lost-long position Stray h = omega (arith, field-long (word "lost ") position 20 (word " stray\n") (omega arith) (omega arith))
+
+pub total-long : (counts : Counts) (blocks : ℕ) → counts .records < 2 ^ 64 → blocks < 2 ^ 64 → counts .lost < 2 ^ 64 → length (totalLine counts blocks) ≤ 83
+unfolding totalLine word
+total-long counts blocks r b l =
+    let c = field-long (word " lost ") (counts .lost) 20 (word "\n") (omega arith) (omega arith) in
+    let d = field-long (word " blocks ") blocks 20 (fieldOf " lost " (counts .lost) ++ word "\n") (omega arith) (omega arith) in
+    let e = field-long (word "records ") (counts .records) 20 (fieldOf " blocks " blocks ++ (fieldOf " lost " (counts .lost) ++ word "\n")) (omega arith) (omega arith) in
+    omega (arith, c, d, e)
+
+pub too-long-long : length tooLongLine ≡ 14
+unfolding tooLongLine word
+too-long-long = refl
+
+-- ---- a record's line
+
+number-short : (r : Refusal) → numberOf r < 10
+number-short CertificateLength = omega arith
+number-short IssuerLength = omega arith
+number-short UnknownProfile = omega arith
+number-short (Unsound side place) = omega arith
+number-short (Unordered side place) = omega arith
+number-short (NotCertificate side place) = omega arith
+number-short NoRoom = omega arith
+number-short NoNumber = omega arith
+
+side-number-short : (side : Side) → sideNumber side < 10
+side-number-short Certificate = omega arith
+side-number-short Issuer = omega arith
+
+side-short : (r : Refusal) → sideOf r < 10
+side-short CertificateLength = omega arith
+side-short IssuerLength = omega arith
+side-short UnknownProfile = omega arith
+side-short (Unsound side place) = side-number-short side
+side-short (Unordered side place) = side-number-short side
+side-short (NotCertificate side place) = side-number-short side
+side-short NoRoom = omega arith
+side-short NoNumber = omega arith
+
+-- the number in an answer: how many findings, or a refusal's place
+abbrev pub numberIn : Answer → ℕ
+numberIn (Report count) = count
+numberIn (Refused r) = placeOf r
+
+answer-long : (a : Answer) (rest : List ℕ) → numberIn a < 2 ^ 64 → length (answerText a ++ rest) ≤ 41 + length rest
+unfolding refusalText word
+answer-long (Report count) rest h = omega (arith, field-long (word " findings ") count 20 rest (omega arith) (omega arith))
+answer-long (Refused r) rest h =
+    let a = decimal-long (numberOf r) 1 (number-short r) (omega arith) in
+    let b = decimal-long (sideOf r) 1 (side-short r) (omega arith) in
+    let c = decimal-long (placeOf r) 20 (omega arith) (omega arith) in
+    simp length-append (omega (arith, a, b, c))
+
+pub record-long : (r : Record) → r .number < 2 ^ 64 → r .profile < 256 → numberIn (r .answer) < 2 ^ 64 → length (recordLine r) ≤ 81
+unfolding recordLine word
+record-long r n p h =
+    let a = answer-long (r .answer) (word "\n") h in
+    let b = field-long (word " profile ") (r .profile) 3 (answerText (r .answer) ++ word "\n") (omega arith) (omega arith) in
+    let c = field-long (word "record ") (r .number) 20 (fieldOf " profile " (r .profile) ++ (answerText (r .answer) ++ word "\n")) (omega arith) (omega arith) in
+    omega (arith, a, b, c)
+
+-- ---- all lines of an item
+
+-- each is an octet
+abbrev Octets : List ℕ → Type 0
+Octets s = (i : ℕ) → octetAt s i < 256
+
+pair-small : (s : List ℕ) → Octets s → (i : ℕ) → pairAt s i < 65536
+pair-small s o i = omega (arith, o i, o (i + 1))
+
+pub findings-long : (k : ℕ) (s : List ℕ) → Octets s → length (findingLines (decode k s)) ≤ 30 * k
+unfolding findingLines decode
+findings-long zero s o = omega arith
+findings-long (suc k) s o =
+    let first = made (pairAt s 0) (pairAt s 2) (pairAt s 4) in
+    let one = finding-long first (pair-small s o 0) (pair-small s o 2) (pair-small s o 4) in
+    let later = findings-long k (drop width s) (λ (i : ℕ). rw (getD-drop width s i 0) (o (width + i))) in
+    rw (length-append (findingLine first) (findingLines (decode k (drop width s)))) (omega (arith, one, later))
+
+-- how many findings an answer counts, and an item
+abbrev pub countOf : Answer → ℕ
+countOf (Report count) = count
+countOf (Refused r) = 0
+
+abbrev pub countIn : Item → ℕ
+countIn (Items.Record r) = countOf (r .answer)
+countIn (Items.Lost loss) = 0
+countIn Items.End = 0
+
+-- its numbers are such as the code can hold
+abbrev pub Held : Item → Type 0
+Held (Items.Record r) = (r .number < 2 ^ 64) × (r .profile < 256) × (numberIn (r .answer) < 2 ^ 64)
+Held (Items.Lost loss) = Unit {0}
+Held Items.End = Unit {0}
+
+entries-long : (a : Answer) (s : List ℕ) → Octets s → length (findingLines (entriesOf a s)) ≤ 30 * countOf a
+unfolding findingLines
+entries-long (Report count) s o = findings-long count s o
+entries-long (Refused r) s o = omega arith
+
+pub item-long : (position : ℕ) (item : Item) (s : List ℕ) → position < 2 ^ 64 → Held item → Octets s → length (itemLines position item s) ≤ 81 + 30 * countIn item
+unfolding recordLines
+item-long position (Items.Record r) s h k o =
+    let line = record-long r (k .0) (k .1) (k .2) in
+    let others = entries-long (r .answer) s o in
+    rw (length-append (recordLine r) (findingLines (entriesOf (r .answer) s))) (omega (arith, line, others))
+item-long position (Items.Lost loss) s h k o = omega (arith, lost-long position loss h)
+item-long position Items.End s h k o = omega arith
+
+-- ---- what fits in the room
+
+answer-fits : (es : List Entry) (room : List ℕ) → width * countOf (answerTo es room) ≤ length room
+unfolding answerTo
+answer-fits es room = go (fits es room) refl
+  where
+    go : (t : Bool) → fits es room ≡ t → width * countOf (cond t (Report (length es)) (Refused NoRoom)) ≤ length room
+    go true e = leb-true _ _ e
+    go false e = omega arith
+
+judged-fits : (j : Judgement) (certificate issuer room : List ℕ) → width * countOf (answerBy j certificate issuer room) ≤ length room
+judged-fits (Judgements.Refused r) certificate issuer room = omega arith
+judged-fits (Judgements.Accepted p) certificate issuer room = answer-fits (findings p certificate issuer) room
+
+event-fits : (room : List ℕ) (e : Event) → width * countIn (itemOf room e) ≤ length room
+unfolding answerOf
+event-fits room (record-at position number p) = judged-fits (judgementOf (certificateIn p) (issuerIn p) (profileIn p)) (certificateIn p) (issuerIn p) room
+event-fits room (lost-at position loss) = omega arith
+
+pub count-fits : (deck : List ℕ) (position : ℕ) (room : List ℕ) → width * countIn (itemAt deck position room) ≤ length room
+unfolding itemAt
+count-fits deck position room = go (ltb (512 * position) (length deck))
+  where
+    go : (t : Bool) → width * countIn (cond t (itemOf room (eventAt deck position)) Items.End) ≤ length room
+    go true = event-fits room (eventAt deck position)
+    go false = omega arith
+
+pub item-whole : (deck : List ℕ) (position : ℕ) (room s : List ℕ) → length room ≤ 65536 → position < 2 ^ 64 → Held (itemAt deck position room) → Octets s → length (itemLines position (itemAt deck position room) s) ≤ 327741
+item-whole deck position room s h l k o = omega (arith, item-long position (itemAt deck position room) s l k o, count-fits deck position room)

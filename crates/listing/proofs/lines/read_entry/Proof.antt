@@ -1,0 +1,42 @@
+-- `listing::lines::read_entry` meets its contract. Assumes nothing.
+use borrow.Author.Needs.{needs}
+use Rattle.listing.proofs.Laws.Entries.{entry-past, entry-by}
+use Rattle.listing.proofs.lines.read_entry.Statement.{statement}
+use Rattle.listing.proofs.lines.read_entry.Tie as tie
+
+returns : tie.Need-returns
+returns c = entry-past (c .before .before .args .s .now) (c .before .before .args .k) (c .if1 .taken)
+
+mul-at : tie.Need-mul-at
+mul-at c = search needs
+
+add-pair : tie.Need-add-pair
+add-pair c = search needs
+
+pair-requires : tie.Need-pair-requires
+pair-requires c κs = search needs
+
+add-pair-2 : tie.Need-add-pair-2
+add-pair-2 c = search needs
+
+pair-requires-2 : tie.Need-pair-requires-2
+pair-requires-2 c κs = search needs
+
+pair-requires-3 : tie.Need-pair-requires-3
+pair-requires-3 c κs = search needs
+
+returns-2 : tie.Need-returns-2
+returns-2 c = entry-by (c .before .before .before .before .before .args .s .now) (c .before .before .before .before .before .args .k) (c .pair3 .ensures .0) (c .before .before .pair .ensures .0) (c .before .pair2 .ensures .0)
+
+pub read-entry-spec : {M : Type 1} → statement M
+read-entry-spec =
+    tie.close
+    (tie.spec
+    returns
+    mul-at
+    add-pair
+    pair-requires
+    add-pair-2
+    pair-requires-2
+    pair-requires-3
+    returns-2)

@@ -1,0 +1,20 @@
+-- `listing::texts::field` meets its contract. Assumes nothing.
+use borrow.Author.Needs.{needs}
+use Rattle.listing.proofs.Laws.Putting.{_⨾_}
+use Rattle.listing.proofs.texts.field.Statement.{statement}
+use Rattle.listing.proofs.texts.field.Tie as tie
+
+word-requires : tie.Need-word-requires
+word-requires c κs = search needs
+
+decimal-requires : tie.Need-decimal-requires
+decimal-requires c κs = search needs
+
+same-length : tie.Need-same-length
+same-length c = search needs
+
+returns : tie.Need-returns
+returns c = c .before .before .before .before .before .before .word .ensures ⨾ c .before .before .decimal .ensures
+
+pub field-spec : {M : Type 1} → statement M
+field-spec = tie.close (tie.spec word-requires decimal-requires same-length returns)

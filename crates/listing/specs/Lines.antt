@@ -1,0 +1,63 @@
+-- The lines that document 01 ("The deck") prints, each quoted from it.
+use mathlib.Core.List.{List, _++_}
+use Prim.Native.Nat.{ℕ, _+_, _*_}
+use Prim.Native.String.{String}
+use Rattle.octets.specs.Numbers.{pairAt}
+use Rattle.report.specs.Entries.{width}
+use Rattle.report.specs.declared.sink.Entry.{Entry}
+use Rattle.lint.specs.Refusals.{numberOf, sideOf, placeOf}
+use Rattle.lint.specs.declared.refusals.Refusal.{Refusal}
+use Rattle.lint.specs.declared.linting.Answer.{Answer}
+use Rattle.lint.specs.declared.linting.Answer.the-variants.{Report, Refused}
+use Rattle.reader.specs.declared.finding.Loss.{Loss}
+use Rattle.reader.specs.declared.finding.Loss.the-variants.{Short, Unsound, Stray}
+use Rattle.reader.specs.declared.stepping.Record.{Record}
+use Rattle.reader.specs.declared.counting.Counts.{Counts}
+use Rattle.listing.specs.Texts.{word, decimal}
+
+-- a word, and a number behind it
+abbrev pub fieldOf : String → ℕ → List ℕ
+fieldOf w n = word w ++ decimal n
+
+-- entry k of a report, from 0
+unfoldable pub entryOf : List ℕ → ℕ → Entry
+entryOf s k =
+    record {
+      rule = pairAt s (width * k);
+      place = record { start = pairAt s (width * k + 2); len = pairAt s (width * k + 4) };
+    }
+
+-- "  104 at 13 length 3"
+unfoldable pub findingLine : Entry → List ℕ
+findingLine e = fieldOf "  " (e .rule) ++ (fieldOf " at " (e .place .start) ++ (fieldOf " length " (e .place .len) ++ word "\n"))
+
+-- " refused 6 side 1 at 0"
+unfoldable pub refusalText : Refusal → List ℕ
+refusalText r = fieldOf " refused " (numberOf r) ++ (fieldOf " side " (sideOf r) ++ fieldOf " at " (placeOf r))
+
+-- this, or " findings 2"
+abbrev pub answerText : Answer → List ℕ
+answerText (Report count) = fieldOf " findings " count
+answerText (Refused r) = refusalText r
+
+-- "record 1 profile 3 findings 2", "record 1 profile 1 refused 6 side 1 at 0"
+unfoldable pub recordLine : Record → List ℕ
+recordLine r = fieldOf "record " (r .number) ++ (fieldOf " profile " (r .profile) ++ (answerText (r .answer) ++ word "\n"))
+
+abbrev pub lossWord : Loss → String
+lossWord Short = " short\n"
+lossWord Unsound = " unsound\n"
+lossWord Stray = " stray\n"
+
+-- "lost 1 unsound"
+unfoldable pub lostLine : ℕ → Loss → List ℕ
+lostLine position loss = fieldOf "lost " position ++ word (lossWord loss)
+
+-- "records 1 blocks 3 lost 2"
+unfoldable pub totalLine : Counts → ℕ → List ℕ
+totalLine counts blocks =
+    fieldOf "records " (counts .records) ++ (fieldOf " blocks " blocks ++ (fieldOf " lost " (counts .lost) ++ word "\n"))
+
+-- "past that it prints only "deck too long""
+unfoldable pub tooLongLine : List ℕ
+tooLongLine = word "deck too long\n"

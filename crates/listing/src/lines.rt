@@ -1,0 +1,141 @@
+// The lines (document 01, "The deck"), each with the line feed that ends it.
+use crate::texts::field;
+use crate::texts::word;
+use lint::Answer;
+use lint::Refusal;
+use octets::Place;
+use reader::Counts;
+use reader::Item;
+use reader::Loss;
+use reader::Record;
+use report::Entry;
+ghost use mathlib.Core.Path.{_≡_};
+ghost use Rattle.report.specs.Entries.{decode};
+ghost use Rattle.listing.specs.Putting.{Put};
+ghost use Rattle.listing.specs.Lines.{entryOf, findingLine, refusalText, answerText, recordLine, lostLine, totalLine, tooLongLine};
+ghost use Rattle.listing.specs.Listing.{findingLines, recordLines, itemLines};
+
+// The octets of an entry, as `report` writes them.
+const WIDTH: usize = 6;
+
+// Entry k of a report, from 0. Past the end of the report all octets are 0.
+fn read_entry(s: &[u8], k: usize) -> Entry
+    ensures { λ r. ⌜ r ≡ entryOf (now (s .entry)) k ⌝ }
+{
+    if s.len() / WIDTH < k {
+        return Entry {
+            rule: 0,
+            place: Place::NONE,
+        };
+    }
+    let at = WIDTH * k;
+    let place = Place {
+        start: octets::pair(s, at + 2),
+        len: octets::pair(s, at + 4),
+    };
+    Entry {
+        rule: octets::pair(s, at),
+        place: place,
+    }
+}
+
+// The line of entry k of a report, from 0.
+pub fn finding_line(out: &mut [u8], n: usize, report: &[u8], k: usize) -> usize
+    ensures { λ r. ⌜ Put (findingLine (entryOf (now (report .entry)) k)) n (now (out .entry)) r (now (out .exit)) ⌝ }
+{
+    let e = read_entry(report, k);
+    let place = e.place;
+    let a = field(out, n, b"  ", e.rule);
+    let b = field(out, a, b" at ", place.start);
+    let c = field(out, b, b" length ", place.len);
+    word(out, c, b"\n")
+}
+
+fn refusal(out: &mut [u8], n: usize, r: Refusal) -> usize
+    ensures { λ m. ⌜ Put (refusalText r) n (now (out .entry)) m (now (out .exit)) ⌝ }
+{
+    let a = field(out, n, b" refused ", lint::number_of(r));
+    let b = field(out, a, b" side ", lint::side_of(r));
+    field(out, b, b" at ", lint::place_of(r))
+}
+
+fn outcome(out: &mut [u8], n: usize, answer: Answer) -> usize
+    ensures { λ r. ⌜ Put (answerText answer) n (now (out .entry)) r (now (out .exit)) ⌝ }
+{
+    match answer {
+        Answer::Report(count) => field(out, n, b" findings ", count),
+        Answer::Refused(r) => refusal(out, n, r),
+    }
+}
+
+pub fn record_line(out: &mut [u8], n: usize, record: Record) -> usize
+    ensures { λ r. ⌜ Put (recordLine «record») n (now (out .entry)) r (now (out .exit)) ⌝ }
+{
+    let answer = record.answer;
+    let a = field(out, n, b"record ", record.number);
+    let b = field(out, a, b" profile ", octets::wide(record.profile));
+    let c = outcome(out, b, answer);
+    word(out, c, b"\n")
+}
+
+// The block at a position.
+pub fn lost_line(out: &mut [u8], n: usize, position: usize, loss: Loss) -> usize
+    ensures { λ r. ⌜ Put (lostLine position loss) n (now (out .entry)) r (now (out .exit)) ⌝ }
+{
+    let a = field(out, n, b"lost ", position);
+    match loss {
+        Loss::Short => word(out, a, b" short\n"),
+        Loss::Unsound => word(out, a, b" unsound\n"),
+        Loss::Stray => word(out, a, b" stray\n"),
+    }
+}
+
+pub fn total_line(out: &mut [u8], n: usize, counts: Counts, blocks: usize) -> usize
+    ensures { λ r. ⌜ Put (totalLine counts blocks) n (now (out .entry)) r (now (out .exit)) ⌝ }
+{
+    let a = field(out, n, b"records ", counts.records);
+    let b = field(out, a, b" blocks ", blocks);
+    let c = field(out, b, b" lost ", counts.lost);
+    word(out, c, b"\n")
+}
+
+pub fn too_long(out: &mut [u8], n: usize) -> usize
+    ensures { λ r. ⌜ Put tooLongLine n (now (out .entry)) r (now (out .exit)) ⌝ }
+{
+    word(out, n, b"deck too long\n")
+}
+
+// The lines of the first `count` entries of a report.
+fn finding_lines(out: &mut [u8], n: usize, report: &[u8], count: usize) -> usize
+    ensures { λ r. ⌜ Put (findingLines (decode count (now (report .entry)))) n (now (out .entry)) r (now (out .exit)) ⌝ }
+{
+    let mut m = n;
+    let mut k: usize = 0;
+    while k < count {
+        m = finding_line(out, m, report, k);
+        k += 1;
+    }
+    m
+}
+
+fn record_lines(out: &mut [u8], n: usize, record: Record, report: &[u8]) -> usize
+    ensures { λ r. ⌜ Put (recordLines «record» (now (report .entry))) n (now (out .entry)) r (now (out .exit)) ⌝ }
+{
+    let m = record_line(out, n, record);
+    let answer = record.answer;
+    match answer {
+        Answer::Report(count) => finding_lines(out, m, report, count),
+        Answer::Refused(_) => m,
+    }
+}
+
+// All lines of what a step of the reader hands out at a position, with the report that it leaves in the room.
+pub fn item_lines(out: &mut [u8], n: usize, position: usize, item: Item, report: &[u8]) -> usize
+    ensures { λ r. ⌜ Put (itemLines position item (now (report .entry))) n (now (out .entry)) r (now (out .exit)) ⌝ }
+{
+    match item {
+        Item::Record(record) => record_lines(out, n, record, report),
+        Item::Lost(loss) => lost_line(out, n, position, loss),
+        Item::End => n,
+    }
+}
