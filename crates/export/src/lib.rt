@@ -28,7 +28,12 @@ fn packed(r: Refusal) -> u64
 
 // Lints a certificate with its issuer's.
 #[no_mangle]
-pub extern "C" fn dlozamife_lint(certificate: &[u8], issuer: &[u8], profile: u8, room: &mut [u8]) -> u64
+pub extern "C" fn dlozamife_lint(
+    certificate: &[u8],
+    issuer: &[u8],
+    profile: u8,
+    room: &mut [u8],
+) -> u64
     ensures { λ r. ⌜ r ≡ packedReport (answerOf (now (certificate .entry)) (now (issuer .entry)) profile (now (room .entry))) ⌝ }
     ensures { λ _. ⌜ now (room .exit) ≡ roomOf (now (certificate .entry)) (now (issuer .entry)) profile (now (room .entry)) ⌝ }
 {

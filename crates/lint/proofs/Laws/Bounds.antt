@@ -12,17 +12,6 @@ use native.Mathlib.Nat.{lt-of-lt-of-le}
 use native.Mathlib.Omega.{arith}
 use lib.ListN.{length}
 use borrow.Author.Tests.{leb-true}
-use Rattle.lint.specs.Refusals.{placeOf}
-use Rattle.lint.specs.Judging.{lengthOk, bySoundness, sideJudgement, orElse, bothSides, forProfile, admissionOf, onceAdmitted, judgementOf}
-use Rattle.lint.specs.Findings.{findings}
-use Rattle.lint.specs.Answers.{answerTo, answerBy, answerOf}
-use Rattle.lint.specs.Statements.{sideOctets, WithinSide}
-use Rattle.lint.specs.declared.refusals.Side.{Side}
-use Rattle.lint.specs.declared.refusals.Side.the-variants.{Certificate, Issuer}
-use Rattle.lint.specs.declared.refusals.Refusal.{Refusal}
-use Rattle.lint.specs.declared.judging.Judgement.{Judgement}
-use Rattle.lint.specs.declared.linting.Answer.{Answer}
-use Rattle.lint.specs.declared.linting.Answer.the-variants.{Report, Refused}
 use Rattle.der.specs.Soundness.{derSoundness, refusalPlace as faultPlace}
 use Rattle.der.specs.declared.walk.Soundness.{Soundness}
 use Rattle.der.specs.declared.walk.Soundness.the-variants.{Sound, Unsound, Unordered}
@@ -38,9 +27,20 @@ use Rattle.profiles.specs.declared.fields.Asked.the-variants.{For, Unknown}
 use Rattle.report.specs.Entries.{width}
 use Rattle.report.specs.Answers.{fits}
 use Rattle.report.specs.declared.sink.Entry.{Entry}
-use Rattle.lint.proofs.Laws.Accepted.{admitted-certificate, admitted-issuer}
+use Rattle.lint.specs.Refusals.{placeOf}
+use Rattle.lint.specs.Judging.{lengthOk, bySoundness, sideJudgement, orElse, bothSides, forProfile, admissionOf, onceAdmitted, judgementOf}
+use Rattle.lint.specs.Findings.{findings}
+use Rattle.lint.specs.Answers.{answerTo, answerBy, answerOf}
+use Rattle.lint.specs.Statements.{sideOctets, WithinSide}
+use Rattle.lint.specs.declared.refusals.Side.{Side}
+use Rattle.lint.specs.declared.refusals.Side.the-variants.{Certificate, Issuer}
+use Rattle.lint.specs.declared.refusals.Refusal.{Refusal}
 use Rattle.lint.specs.declared.refusals.Refusal.the-variants as Refusals
+use Rattle.lint.specs.declared.judging.Judgement.{Judgement}
 use Rattle.lint.specs.declared.judging.Judgement.the-variants as Judgements
+use Rattle.lint.specs.declared.linting.Answer.{Answer}
+use Rattle.lint.specs.declared.linting.Answer.the-variants.{Report, Refused}
+use Rattle.lint.proofs.Laws.Accepted.{admitted-certificate, admitted-issuer}
 
 -- ---- refusals 1, 2 and 3
 
