@@ -20,11 +20,21 @@ pub struct Program {
 }
 
 /// Whether the programs are to be left out, which the environment must say outright.
-pub fn programs_are_left_out() -> bool {
+fn programs_are_left_out() -> bool {
     env::var("DLO_NO_PROGRAMS").is_ok_and(|value| value == "1")
 }
 
 impl Program {
+    /// The program of this name, which has to be there; none, and a line that says so, where the
+    /// programs are left out.
+    pub fn unless_left_out(name: &str, what: &str) -> Option<Program> {
+        if programs_are_left_out() {
+            println!("skipped: {what} was not asked, because DLO_NO_PROGRAMS=1 leaves the programs out");
+            return None;
+        }
+        Some(Program::find(name).unwrap_or_else(|why| panic!("{why}")))
+    }
+
     /// The program of this name, or why it cannot be run.
     pub fn find(name: &str) -> Result<Program, String> {
         let binary = folder_of_programs().join(name);

@@ -1,10 +1,12 @@
 // Lines of words and numbers. A line is put together first and written at once.
+use lint::Answer;
+use lint::Refusal;
 
 // So many octets hold every line.
-const LINE: usize = 80;
+pub const LINE: usize = 80;
 
 // Puts a text behind the first n octets of a line, as far as the line goes, and answers how many there are then.
-fn put_text(line: &mut [u8], n: usize, text: &[u8]) -> usize {
+pub fn put_text(line: &mut [u8], n: usize, text: &[u8]) -> usize {
     let mut at = n;
     let mut k = 0;
     while k < text.len() {
@@ -25,6 +27,27 @@ fn put_number(line: &mut [u8], n: usize, number: usize) -> usize {
     put_text(line, n, &digits[..k])
 }
 
+// The same with a text and a number.
+pub fn put(line: &mut [u8], n: usize, text: &[u8], number: usize) -> usize {
+    let a = put_text(line, n, text);
+    put_number(line, a, number)
+}
+
+// The same with a refusal.
+pub fn put_refusal(line: &mut [u8], n: usize, r: Refusal) -> usize {
+    let a = put(line, n, b"refused ", lint::number_of(r));
+    let b = put(line, a, b" side ", lint::side_of(r));
+    put(line, b, b" at ", lint::place_of(r))
+}
+
+// The same with the linter's answer.
+pub fn put_answer(line: &mut [u8], n: usize, answer: Answer) -> usize {
+    match answer {
+        Answer::Report(count) => put(line, n, b"findings ", count),
+        Answer::Refused(r) => put_refusal(line, n, r),
+    }
+}
+
 // Writes the first n octets of a line.
 fn write(line: &[u8], n: usize) {
     if n <= line.len() {
@@ -32,24 +55,15 @@ fn write(line: &[u8], n: usize) {
     }
 }
 
+// Ends a line after its first n octets and writes it.
+pub fn end(line: &mut [u8], n: usize) {
+    let a = put_text(line, n, b"\n");
+    write(line, a);
+}
+
 // Writes a line of a text and a number.
 pub fn say(text: &[u8], number: usize) {
     let mut line = [0u8; LINE];
-    let a = put_text(&mut line, 0, text);
-    let b = put_number(&mut line, a, number);
-    let c = put_text(&mut line, b, b"\n");
-    write(&line, c);
-}
-
-// Writes a refusal's line.
-pub fn say_refusal(number: usize, side: usize, place: usize) {
-    let mut line = [0u8; LINE];
-    let a = put_text(&mut line, 0, b"refused ");
-    let b = put_number(&mut line, a, number);
-    let c = put_text(&mut line, b, b" side ");
-    let d = put_number(&mut line, c, side);
-    let e = put_text(&mut line, d, b" at ");
-    let f = put_number(&mut line, e, place);
-    let g = put_text(&mut line, f, b"\n");
-    write(&line, g);
+    let a = put(&mut line, 0, text, number);
+    end(&mut line, a);
 }

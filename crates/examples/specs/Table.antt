@@ -30,9 +30,8 @@ use Rattle.lint.specs.declared.linting.Answer.the-variants as Lint
 use Rattle.blocks.specs.Block.{blockOf}
 use Rattle.writer.specs.Cutting.{zeroFilled, blocksOf, joined}
 use Rattle.reader.specs.Runs.{blocks}
-use Rattle.reader.specs.Walking.{walk}
+use Rattle.reader.specs.Walking.{Handed, walk}
 use Rattle.reader.specs.declared.finding.Loss.the-variants.{Short, Unsound}
-use Rattle.reader.specs.declared.stepping.Item.{Item}
 use Rattle.reader.specs.declared.stepping.Item.the-variants as Items
 
 pub data Question : Type 0 where
@@ -63,7 +62,7 @@ pub data Answer : Type 0 where
   number : ℤ → Answer
   says : Bool → Answer
   octets : List ℕ → Answer
-  items : List (ℕ × Item) → Answer
+  handed : List Handed → Answer
   -- the question is about something that is none
   senseless : Answer
 
@@ -92,7 +91,7 @@ answer (value slot s) = says (valueOk s slot 0 (length s))
 answer (below s) = says (isBelow federalArc s)
 answer (usage p kind s) = says (otherUsage s (headOf s 0 (length s)) (allowedUsage p kind))
 answer (check k p) = octets (drop 510 (blockOf k (length p) 0 (take 502 (zeroFilled p))))
-answer (reading deck room) = items (walk (length (blocks deck)) deck 0 room)
+answer (reading deck room) = handed (walk (length (blocks deck)) deck 0 room)
 
 pub record Example : Type 0 where
   pub paper : ℕ
@@ -114,11 +113,11 @@ unfoldable pub p12Deck : List ℕ
 p12Deck = joined (blocksOf 1 p12) ++ replicate 612 0
 
 -- "record 1 profile 1 refused 6 side 1 at 0", "lost 1 unsound", "lost 2 short"
-abbrev p12Items : List (ℕ × Item)
-p12Items =
-    (0, Items.Record (record { number = 1; profile = 1; length = 7; answer = Lint.Refused (NotCertificate Certificate 0) }))
-    ∷ (1, Items.Lost Unsound)
-    ∷ (2, Items.Lost Short)
+abbrev p12Handed : List Handed
+p12Handed =
+    record { position = 0; item = Items.Record (record { number = 1; profile = 1; length = 7; answer = Lint.Refused (NotCertificate Certificate 0) }); report = [] }
+    ∷ record { position = 1; item = Items.Lost Unsound; report = [] }
+    ∷ record { position = 2; item = Items.Lost Short; report = [] }
     ∷ []
 
 -- P10 and P11 hold for both profiles of S.
@@ -151,5 +150,5 @@ table =
     ∷ P 11 (usage Organization EllipticCurve (0x03 ∷ 0x02 ∷ 0x05 ∷ 0xA0 ∷ [])) (says true)
     ∷ P 11 (value 4 (0x03 ∷ 0x02 ∷ 0x00 ∷ 0x80 ∷ [])) (says false)
     ∷ P 12 (check 1 p12) (octets (0x05 ∷ 0x2E ∷ []))
-    ∷ P 12 (reading p12Deck []) (items p12Items)
+    ∷ P 12 (reading p12Deck []) (handed p12Handed)
     ∷ []

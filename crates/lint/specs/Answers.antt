@@ -1,9 +1,10 @@
 -- The linter's complete answer: what it says, and what the room holds then.
 use mathlib.Core.Bool.{cond}
-use mathlib.Core.List.{List}
+use mathlib.Core.List.{List, []}
 use mathlib.Core.Path.{_≡_}
-use Prim.Native.Nat.{ℕ}
-use lib.ListN.{length}
+use Prim.Native.Nat.{ℕ, _*_}
+use lib.ListN.{length, take}
+use Rattle.report.specs.Entries.{width}
 use Rattle.report.specs.Answers.{fits, filled}
 use Rattle.report.specs.declared.sink.Entry.{Entry}
 use Rattle.lint.specs.Findings.{findings}
@@ -42,3 +43,8 @@ roomOf certificate issuer profile room = roomBy (judgementOf certificate issuer 
 pub record Answered (certificate issuer : List ℕ) (profile : ℕ) (room : List ℕ) (r : Answer) (last : List ℕ) : Type 0 where
   pub told : r ≡ answerOf certificate issuer profile room
   pub bytes : last ≡ roomOf certificate issuer profile room
+
+-- the report that an answer leaves in the room: the octets of the findings that it counts
+abbrev pub reportOf : Answer → List ℕ → List ℕ
+reportOf (Report n) room = take (width * n) room
+reportOf (Refused r) room = []

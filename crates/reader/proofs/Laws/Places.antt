@@ -2,24 +2,23 @@
 --     block-total             how many blocks a deck has
 --     from-cons, from-nil     the blocks from a position on: the block there and those after it, or none past the end
 --     first-is, next-block    the first of them; a block further on
---     block-long              a block that is not at the end has 512 octets
+--     block-long, data-full   a block that is not at the end has 512 octets, of which 502 are data
 --     parts-step              one part more, also where the deck has ended
 --     data-length             how much data the k blocks from a position on have
 -- Assumes nothing.
 use mathlib.Core.Path.{_≡_, refl, sym, ap, _∙_}
 use mathlib.Core.Bool.{false}
 use mathlib.Core.Logic.{⊎-elim}
-use mathlib.Core.List.{List, [], _∷_, _++_}
-use Prim.Native.Nat.{ℕ, zero, suc, _+_, _-_, _*_, _/_, _%_, _≤_, _<_}
+use mathlib.Core.List.{List, [], _∷_}
+use Prim.Native.Nat.{ℕ, zero, suc, _+_, _*_, _/_, _≤_, _<_}
 use native.Mathlib.Nat.{le-of-suc-le-suc, not-suc-le-zero}
 use native.Mathlib.Omega.{arith}
-use lib.ListN.{length, getD, take, drop, length-append, length-drop, drop-of-length-le, List·getD-append}
+use lib.ListN.{length, take, drop, length-append, length-drop, drop-of-length-le}
 use lib.Seq.{drop-drop, length-take-le}
 use Rattle.blocks.specs.Tests.{_and_}
 use Rattle.blocks.specs.Block.{sound, dataOf}
 use Rattle.reader.specs.Runs.{cut, blocks, from, blockAt, isPart, areParts, dataFrom, first}
 use Rattle.blocks.proofs.Laws.Logic.{and-not-left, below-or-not}
-use Rattle.blocks.proofs.Laws.Block.{getD-past}
 
 pub next-block : (d : List ℕ) (i : ℕ) → blockAt (drop 512 d) i ≡ blockAt d (suc i)
 next-block d i =
@@ -55,6 +54,9 @@ first-is d i h = ap first (from-cons d i h)
 pub block-long : (d : List ℕ) (i : ℕ) → 512 * i + 512 ≤ length d → length (blockAt d i) ≡ 512
 block-long d i h = length-take-le 512 (drop (512 * i) d) (simp length-drop (omega arith))
 
+pub data-full : (b : List ℕ) → length b ≡ 512 → length (dataOf b) ≡ 502
+data-full b h = length-take-le 502 (drop 8 b) (simp length-drop (omega arith))
+
 -- one part more, also where the deck has ended
 nothing-no-part : (number n j : ℕ) → isPart number n j [] ≡ false
 unfolding isPart sound _and_
@@ -74,4 +76,4 @@ pub data-length : (k : ℕ) (d : List ℕ) (i : ℕ) → 512 * (i + k) ≤ lengt
 data-length zero d i h = refl
 data-length (suc k) d i h =
     rw (from-cons d i (omega arith), length-append, data-length k d (suc i) (omega arith))
-    (omega (arith, length-take-le 502 (drop 8 (blockAt d i)) (simp length-drop (omega (arith, block-long d i (omega arith))))))
+    (omega (arith, data-full (blockAt d i) (block-long d i (omega arith))))

@@ -20,8 +20,8 @@ use mathlib.Core.List.{List, [], _∷_, _++_, append-nil}
 use Prim.Native.Nat.{ℕ, zero, suc, _+_, _-_, _*_, _≤_, _<_}
 use native.Mathlib.Nat.{not-suc-le-zero}
 use native.Mathlib.Omega.{arith}
-use lib.ListN.{length, getD, take, drop, length-take, length-drop, List·getD-append}
-use lib.Seq.{drop-nil, drop-append-add, getD-take, getD-drop, length-take-le}
+use lib.ListN.{length, getD, drop, length-take, length-drop, List·getD-append}
+use lib.Seq.{drop-append-add, getD-take, getD-drop}
 use lib.Dec.{eqb, leb}
 use borrow.Author.Tests.{lt-ltb, le-ltb, leb-true}
 use Rattle.octets.specs.Numbers.{pairAt}
@@ -34,10 +34,10 @@ use Rattle.reader.specs.Finding.{foundIf, foundAt}
 use Rattle.reader.specs.declared.finding.Loss.the-variants.{Short}
 use Rattle.reader.specs.declared.finding.Found.{Found}
 use Rattle.reader.specs.declared.finding.Found.the-variants.{Record, Lost, End}
-use Rattle.blocks.proofs.Laws.Logic.{and-same, and-left, and-right, and-passed, and-not-left, not-true, fits, true-or-false, below-or-not}
+use Rattle.blocks.proofs.Laws.Logic.{and-same, and-left, and-right, and-passed, and-not-left, fits, true-or-false, below-or-not}
 use Rattle.blocks.proofs.Laws.Check.{sound-length}
-use Rattle.reader.proofs.Laws.Steps.{some-parts, run-sound, part-sound}
-use Rattle.reader.proofs.Laws.Places.{first-is, from-cons, from-nil, block-long, parts-step}
+use Rattle.reader.proofs.Laws.Steps.{part-sound}
+use Rattle.reader.proofs.Laws.Places.{first-is, from-cons, block-long, data-full, parts-step}
 
 -- ---- sound blocks
 
@@ -51,9 +51,6 @@ later-block : (d : List ℕ) (i j : ℕ) → getD (from d i) j [] ≡ first (fro
 later-block d i j =
     let e : i + j ≡ i + j + 0 = omega arith in
     getD-drop i (blocks d) j [] ∙ ap (λ (m : ℕ). getD (blocks d) m []) e ∙ sym (getD-drop (i + j) (blocks d) 0 [])
-
-data-long : (b : List ℕ) → sound b ≡ true → length (dataOf b) ≡ 502
-data-long b s = length-take-le 502 (drop 8 b) (simp length-drop (omega (arith, sound-length b s)))
 
 -- ---- one part, as the code joins its tests
 
@@ -106,7 +103,7 @@ data-last number n j zero (b ∷ bs) t m =
     let e : 0 * 502 + m ≡ m = omega arith in
     ap₂ (λ (x : ℕ) (l : List ℕ). drop x l) e (append-nil (dataOf b))
 data-last number n j (suc k) (b ∷ bs) t m =
-    let e : suc k * 502 + m ≡ length (dataOf b) + (k * 502 + m) = omega (arith, data-long b (part-sound number n j b (and-left _ _ t))) in
+    let e : suc k * 502 + m ≡ length (dataOf b) + (k * 502 + m) = omega (arith, data-full b (sound-length b (part-sound number n j b (and-left _ _ t)))) in
     ap (λ (x : ℕ). drop x (dataOf b ++ dataFrom (suc k) bs)) e
     ∙ drop-append-add (dataOf b) (dataFrom (suc k) bs) (k * 502 + m)
     ∙ data-last number n (suc j) k bs (and-right _ _ t) m
@@ -130,7 +127,7 @@ certificate-at (suc k) d i l h =
     rw (from-cons d i (omega arith), at 1 (omega arith), at 2 (omega arith))
   where
     long : length (dataOf (blockAt d i)) ≡ 502
-    long = length-take-le 502 (drop 8 (blockAt d i)) (simp length-drop (omega (arith, block-long d i (omega arith))))
+    long = data-full (blockAt d i) (block-long d i (omega arith))
 
     at : (x : ℕ) → x < 502 → getD (dataOf (blockAt d i) ++ dataFrom k (from d (suc i))) x 0 ≡ getD (blockAt d i) (8 + x) 0
     at x s =

@@ -13,13 +13,13 @@ use borrow.Author.Tests.{lt-ltb, le-ltb}
 use Rattle.blocks.specs.Block.{lengthOf}
 use Rattle.blocks.specs.Record.{parts, profileIn, certificateIn, issuerIn}
 use Rattle.blocks.proofs.Laws.Logic.{below-or-not}
-use Rattle.lint.proofs.Laws.Rooms.{answer-room, room-long}
+use Rattle.lint.proofs.Laws.Rooms.{answer-room, room-long, report-room}
 use Rattle.lint.specs.declared.linting.Answer.{Answer}
 use Rattle.reader.specs.Runs.{blocks, from, blockAt, first, starts}
 use Rattle.reader.specs.Events.{Event, record-at, lost-at, lossOf, eventIf, reading, events}
 use Rattle.reader.specs.Finding.{foundIf, foundAt, blocksIn}
 use Rattle.reader.specs.Stepping.{lintedRecord, lintedRoom, itemOf, roomAfter, eventAt, itemAt, roomAt}
-use Rattle.reader.specs.Walking.{unlessEnd, walk, positionOf, itemsOf}
+use Rattle.reader.specs.Walking.{Handed, handedAt, unlessEnd, walk, positionOf, handedOver, allHandedOver}
 use Rattle.reader.specs.declared.stepping.Item.{Item}
 use Rattle.reader.specs.declared.stepping.Item.the-variants as Items
 use Rattle.reader.proofs.Laws.Steps.{some-parts, past-record, past-lost}
@@ -27,20 +27,23 @@ use Rattle.reader.proofs.Laws.Places.{from-cons, from-nil}
 
 -- ---- an event is handed out
 
-item-room : (room other : List ℕ) → length room ≡ length other → (e : Event) → itemOf room e ≡ itemOf other e
-item-room room other h (record-at position number p) =
-    ap (λ (a : Answer). Items.Record (record { number = number; profile = profileIn p; length = length p; answer = a }))
+-- in a room as long it is handed over the same
+same-handed : (room other : List ℕ) → length room ≡ length other → (e : Event) → handedOver room e ≡ handedOver other e
+unfolding lintedRoom
+same-handed room other h (record-at position number p) =
+    ap₂ (λ (a : Answer) (report : List ℕ). record { position = position; item = Items.Record (record { number = number; profile = profileIn p; length = length p; answer = a }); report = report })
     (answer-room (certificateIn p) (issuerIn p) room (profileIn p) other h)
-item-room room other h (lost-at position loss) = refl
+    (report-room (certificateIn p) (issuerIn p) room other h (profileIn p))
+same-handed room other h (lost-at position loss) = refl
 
 after-long : (room : List ℕ) (e : Event) → length (roomAfter room e) ≡ length room
 unfolding lintedRoom
 after-long room (record-at position number p) = room-long (certificateIn p) (issuerIn p) room (profileIn p)
 after-long room (lost-at position loss) = refl
 
-no-end : (position : ℕ) (room : List ℕ) (e : Event) (later : List (ℕ × Item)) → unlessEnd position (itemOf room e) later ≡ (position, itemOf room e) ∷ later
-no-end position room (record-at at number p) later = refl
-no-end position room (lost-at at loss) later = refl
+no-end : (room : List ℕ) (e : Event) (handed : Handed) (later : List Handed) → unlessEnd (itemOf room e) handed later ≡ handed ∷ later
+no-end room (record-at at number p) handed later = refl
+no-end room (lost-at at loss) handed later = refl
 
 event-stands : (t : Bool) (position : ℕ) (bs : List (List ℕ)) → positionOf (eventIf t position bs) ≡ position
 event-stands true position bs = refl
@@ -87,30 +90,30 @@ module _ (d : List ℕ) (i : ℕ) where
 -- ---- the walk
 
 abbrev Later : ℕ → List ℕ → List ℕ → Type 0
-Later n d other = (i : ℕ) (room : List ℕ) → length room ≡ length other → length (blocks d) ≤ i + n → walk n d i room ≡ itemsOf other (reading 0 i (from d i))
+Later n d other = (i : ℕ) (room : List ℕ) → length room ≡ length other → length (blocks d) ≤ i + n → walk n d i room ≡ allHandedOver other (reading 0 i (from d i))
 
 module _ (n : ℕ) (d other : List ℕ) (i : ℕ) (room : List ℕ) where
-  past-end : length d ≤ 512 * i → walk (suc n) d i room ≡ itemsOf other (reading 0 i (from d i))
+  past-end : length d ≤ 512 * i → walk (suc n) d i room ≡ allHandedOver other (reading 0 i (from d i))
   past-end k = rw (ended d i room k, from-nil d i k)
 
-  inside : Later n d other → length room ≡ length other → length (blocks d) ≤ i + suc n → 512 * i < length d → walk (suc n) d i room ≡ itemsOf other (reading 0 i (from d i))
+  inside : Later n d other → length room ≡ length other → length (blocks d) ≤ i + suc n → 512 * i < length d → walk (suc n) d i room ≡ allHandedOver other (reading 0 i (from d i))
   inside later h l k =
       let e : Event = eventAt d i in
       let m : ℕ = passed d i k (starts (from d i)) in
       let some : 0 < m = passes d i k (starts (from d i)) refl in
       rw (item-is d i k room, room-is d i k room, found-is d i k)
-      (no-end i room e (walk n d (i + m) (roomAfter room e))
-      ∙ ap₂ (λ (x : Item) (xs : List (ℕ × Item)). (i, x) ∷ xs) (item-room room other h e)
+      (no-end room e (handedAt i (itemOf room e) (roomAfter room e)) (walk n d (i + m) (roomAfter room e))
+      ∙ ap₂ (λ (x : Handed) (xs : List Handed). x ∷ xs)
+      (ap (λ (p : ℕ). handedAt p (itemOf room e) (roomAfter room e)) (sym (event-stands (starts (from d i)) i (from d i))) ∙ same-handed room other h e)
       (later (i + m) (roomAfter room e) (after-long room e ∙ h) (omega arith))
-      ∙ ap (λ (p : ℕ). (p, itemOf other e) ∷ itemsOf other (reading 0 (i + m) (from d (i + m)))) (sym (event-stands (starts (from d i)) i (from d i)))
-      ∙ ap (λ (es : List Event). itemsOf other es) (sym (goes d i k (starts (from d i)) refl)))
+      ∙ ap (λ (es : List Event). allHandedOver other es) (sym (goes d i k (starts (from d i)) refl)))
 
 walked-from : (n : ℕ) (d other : List ℕ) → Later n d other
 walked-from zero d other i room h l =
-    ap (λ (bs : List (List ℕ)). itemsOf other (reading 0 i bs)) (sym (drop-of-length-le (blocks d) {i = i} (omega arith)))
+    ap (λ (bs : List (List ℕ)). allHandedOver other (reading 0 i bs)) (sym (drop-of-length-le (blocks d) {i = i} (omega arith)))
 walked-from (suc n) d other i room h l =
     ⊎-elim (inside n d other i room (walked-from n d other) h l) (past-end n d other i room) (below-or-not (512 * i) (length d))
 
-pub walked : (deck room : List ℕ) (steps : ℕ) → length (blocks deck) ≤ steps → walk steps deck 0 room ≡ itemsOf room (events deck)
+pub walked : (deck room : List ℕ) (steps : ℕ) → length (blocks deck) ≤ steps → walk steps deck 0 room ≡ allHandedOver room (events deck)
 unfolding events
 walked deck room steps h = walked-from steps deck room 0 room refl (omega arith)

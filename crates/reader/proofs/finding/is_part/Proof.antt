@@ -1,5 +1,5 @@
 -- `reader::finding::is_part` meets its contract: its tests are those of the definition, joined alike. Assumes nothing.
-use mathlib.Core.Path.{_≡_, sym, _∙_}
+use mathlib.Core.Path.{sym, _∙_}
 use borrow.Author.Needs.{needs}
 use Rattle.reader.proofs.Laws.Starts.{part-by, unsound-no-part}
 use Rattle.reader.proofs.finding.is_part.Statement.{statement}

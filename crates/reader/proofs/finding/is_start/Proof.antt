@@ -1,7 +1,7 @@
 -- `reader::finding::is_start` meets its contract: its tests are those of a run, by the fields of the first block and the fill of the last.
 -- Assumes nothing.
 use mathlib.Core.Path.{_≡_, sym, ap, ap₂, _∙_}
-use mathlib.Core.Bool.{true, false, not, _&&_, _||_}
+use mathlib.Core.Bool.{Bool, true, false, not, _&&_, _||_}
 use mathlib.Core.List.{List}
 use Prim.Native.Nat.{ℕ, _*_, _-_, _≤_, _<_}
 use native.Mathlib.Omega.{arith}
@@ -12,7 +12,7 @@ use borrow.Author.Tests.{not-true, not-false}
 use Rattle.octets.specs.Numbers.{pairAt}
 use Rattle.blocks.specs.Block.{numberOf, lengthOf, dataOf}
 use Rattle.blocks.specs.Record.{isRecordLength, parts, zeros}
-use Rattle.reader.specs.Runs.{blockAt, from, areParts, dataFrom, isWhole, run, starts}
+use Rattle.reader.specs.Runs.{from, areParts, dataFrom, isWhole, run, starts}
 use Rattle.reader.proofs.Laws.Starts.{starts-by, bad-head, good-length, bad-parts, good-parts, whole-by}
 use Rattle.reader.proofs.finding.is_start.Statement.{statement}
 use Rattle.reader.proofs.finding.is_start.Tie as tie
@@ -44,19 +44,25 @@ module _ (c : tie.Else1) where
   sized : (3 ≤ n (c .before)) × (n (c .before) ≤ 16387)
   sized = good-length (number (c .before)) (n (c .before)) (from (deck (c .before)) (position (c .before))) good
 
--- parts as the fields say
-module _ (c : tie.Else2) where
+-- the parts that the fields say, as many as the code counts and as the definition does
+module _ (c : tie.After-are-parts) where
   abbrev here : tie.After-is-record-length
-  here = c .before .before .before .before
+  here = c .before .before .before
 
   abbrev k : ℕ
-  k = c .before .before .parts-of .result
+  k = c .before .parts-of .result
 
-  run-parts : areParts (number here) (n here) 0 k (from (deck here) (position here)) ≡ true
-  run-parts = sym (c .before .are-parts .ensures) ∙ not-false _ (c .if2 .left)
+  abbrev bs : List (List ℕ)
+  bs = from (deck here) (position here)
+
+  counted-parts : (r : Bool) → c .are-parts .result ≡ r → areParts (number here) (n here) 0 k bs ≡ r
+  counted-parts r e = sym (c .are-parts .ensures) ∙ e
+
+  run-parts : (r : Bool) → c .are-parts .result ≡ r → areParts (number here) (n here) 0 (parts (n here)) bs ≡ r
+  run-parts r e = ap (λ (m : ℕ). areParts (number here) (n here) 0 m bs) (sym (c .before .parts-of .ensures)) ∙ counted-parts r e
 
   counted : (0 < k) × (502 * (k - 1) ≤ n here)
-  counted = omega (arith, sized (c .before .before .before), c .before .before .parts-of .ensures)
+  counted = omega (arith, sized (c .before .before), c .before .parts-of .ensures)
 
 block-at-requires : tie.Need-block-at-requires
 block-at-requires c κs = search needs
@@ -84,13 +90,12 @@ are-parts-requires c κs = search needs
 
 returns-2 : tie.Need-returns-2
 returns-2 c =
-    let h : tie.After-is-record-length = c .before .before .before .before in
-    sym (by h
-    ∙ bad-parts (number h) (n h) (from (deck h) (position h)) (good (c .before .before .before))
-    (rw (← c .before .before .parts-of .ensures) (sym (c .before .are-parts .ensures) ∙ not-true _ (c .if2 .taken))))
+    let p : tie.After-are-parts = c .before in
+    sym (by (here p)
+    ∙ bad-parts (number (here p)) (n (here p)) (bs p) (good (p .before .before)) (run-parts p false (not-true (p .are-parts .result) (c .if2 .taken))))
 
 sub-block-at : tie.Need-sub-block-at
-sub-block-at c = counted c .0
+sub-block-at c = counted (c .before) .0
 
 add-block-at : tie.Need-add-block-at
 add-block-at c = search needs
@@ -99,7 +104,7 @@ block-at-requires-2 : tie.Need-block-at-requires-2
 block-at-requires-2 c κs = search needs
 
 sub-is-filled : tie.Need-sub-is-filled
-sub-is-filled c = counted (c .before) .0
+sub-is-filled c = counted (c .before .before) .0
 
 mul-is-filled : tie.Need-mul-is-filled
 mul-is-filled c = search needs
@@ -114,20 +119,19 @@ pair-requires : tie.Need-pair-requires
 pair-requires c κs = search needs
 
 sub-result : tie.Need-sub-result
-sub-result c = sized (c .before .before .before .before .before .before) .0
+sub-result c = omega (arith, sized (c .before .before .before .before .before .before))
 
 returns-3 : tie.Need-returns-3
 returns-3 c =
-    let found : tie.Else2 = c .before .before .before in
-    let h : tie.After-is-record-length = here found in
-    let bs : List (List ℕ) = from (deck h) (position h) in
-    let left : ℕ = n h - 502 * (k found - 1) in
+    let p : tie.After-are-parts = c .before .before .before .before in
+    let h : tie.After-is-record-length = here p in
+    let t : p .are-parts .result ≡ true = not-false (p .are-parts .result) (c .before .before .before .if2 .left) in
     sym (by h
-    ∙ good-parts (number h) (n h) bs (good (found .before .before .before)) (rw (← found .before .before .parts-of .ensures) (run-parts found))
-    ∙ ap (λ (m : ℕ). isWhole (n h) (dataFrom m bs)) (sym (found .before .before .parts-of .ensures))
-    ∙ whole-by (number h) (n h) (k found) (deck h) (position h) (run-parts found) (omega arith) (counted found .0) (counted found .1)
+    ∙ good-parts (number h) (n h) (bs p) (good (p .before .before)) (run-parts p true t)
+    ∙ ap (λ (m : ℕ). isWhole (n h) (dataFrom m (bs p))) (sym (p .before .parts-of .ensures))
+    ∙ whole-by (number h) (n h) (k p) (deck h) (position h) (counted-parts p true t) (omega arith) (counted p .0) (counted p .1)
     ∙ ap₂ _&&_
-    (ap (λ (b : List ℕ). zeros (drop left (dataOf b))) (sym (c .before .before .block-at2 .ensures)) ∙ sym (c .before .is-filled .ensures))
+    (ap (λ (b : List ℕ). zeros (drop (n h - 502 * (k p - 1)) (dataOf b))) (sym (c .before .before .block-at2 .ensures)) ∙ sym (c .before .is-filled .ensures))
     (ap (λ (m : ℕ). leb m (n h - 3)) (ap (λ (b : List ℕ). pairAt b 9) (sym (h .before .before .before .block-at .ensures)) ∙ sym (c .pair .ensures .0))))
 
 pub is-start-spec : {M : Type 1} → statement M

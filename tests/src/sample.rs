@@ -1,0 +1,73 @@
+//! The sample deck that ships with the repository: good records, findings of several kinds, refusals, and each kind of
+//! lost block. Its listing is known from what was put into it.
+
+use reference::{Answer, Loss, Refusal};
+
+use crate::correct::{plain, Case};
+use crate::deck::{listing_of, push_damaged, Damage, Deck, Record};
+use crate::faults::catalogue;
+use crate::random::Random;
+
+/// More room than any report of the sample takes.
+const ROOM: usize = 65_536;
+
+/// The sample's octets and its listing.
+pub fn sample() -> (Vec<u8>, String) {
+    let mut random = Random::for_purpose("the sample deck");
+    let mut deck = Deck::default();
+    let mut number = 0;
+    let mut next = |case: Case| {
+        number += 1;
+        Record { number, case }
+    };
+    for profile in 1..=3 {
+        deck.push_record(&next(plain(profile).encode()));
+    }
+    for (profile, names) in FAULTS {
+        deck.push_record(&next(faulty(profile, names, &mut random)));
+    }
+    // A block of this record went bad: its other blocks are strays.
+    push_damaged(&mut deck, &next(plain(2).encode()), Damage::OctetChanged, &mut random);
+    for case in refused_cases() {
+        deck.push_record(&next(case));
+    }
+    deck.push_record(&next(plain(1).encode()));
+    deck.push_lost(&[0; 512], Loss::Unsound);
+    deck.push_lost(&[0xFF; 100], Loss::Short);
+    let listing = listing_of(&deck.events(ROOM), deck.blocks());
+    (deck.octets, listing)
+}
+
+/// Which faults of the catalogue the faulty records have.
+const FAULTS: [(u8, &[&str]); 5] = [
+    (1, &["one odd purpose"]),
+    (1, &["an underscore in a host name"]),
+    (2, &["valid a second too long or more", "C not the PrintableString US"]),
+    (3, &["serial of 7 octets or fewer"]),
+    (3, &["three odd purposes, two alike", "no key identifier of the authority"]),
+];
+
+fn faulty(profile: u8, names: &[&str], random: &mut Random) -> Case {
+    let faults = catalogue();
+    let mut pair = plain(profile);
+    for name in names {
+        let fault = faults.iter().find(|fault| fault.name == *name && fault.exists_in(profile));
+        fault.unwrap_or_else(|| panic!("no fault {name} in profile {profile}")).apply(&mut pair, random);
+    }
+    pair.encode()
+}
+
+fn refused_cases() -> [Case; 4] {
+    let refused = |number, side, place| Answer::Refused(Refusal { number, side, place });
+    let empty = vec![0x30, 0];
+    [
+        // no certificate at all
+        Case { expected: refused(6, 1, 0), certificate: empty.clone(), ..plain(1).encode() },
+        // a length that is not in the fewest octets
+        Case { expected: refused(4, 2, 0), issuer: vec![0x30, 0x81, 0], ..plain(2).encode() },
+        // a profile that there is not
+        Case { expected: refused(3, 0, 0), profile: 9, ..plain(3).encode() },
+        // a record without an issuer
+        Case { expected: refused(2, 2, 0), issuer: Vec::new(), ..plain(1).encode() },
+    ]
+}
