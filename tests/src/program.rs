@@ -80,6 +80,11 @@ impl Program {
     /// Runs the program with this on its standard input, and gives what it wrote to its standard
     /// output. It must end well, and soon.
     pub fn run(&self, arguments: &[&str], input: &[u8]) -> Vec<u8> {
+        self.run_and_hear(arguments, input).0
+    }
+
+    /// The same, and what it said on its standard error.
+    pub fn run_and_hear(&self, arguments: &[&str], input: &[u8]) -> (Vec<u8>, String) {
         let mut command = self.command();
         command.args(arguments).stdin(Stdio::piped()).stdout(Stdio::piped()).stderr(Stdio::piped());
         let mut process =
@@ -102,7 +107,7 @@ impl Program {
         let status = process.wait().unwrap_or_else(|error| panic!("{} does not end: {error}", self.name));
         let said = String::from_utf8_lossy(&said).into_owned();
         assert!(status.success(), "{} ended with {status}: {said}", self.name);
-        written
+        (written, said)
     }
 }
 
