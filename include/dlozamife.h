@@ -1,10 +1,13 @@
-/* The certificate linter and the deck's writer, for programs in C and C++ that link libexport.a (x86-64 Linux).
+/* The certificate linter and the deck's writer, for programs that link libexport.a (x86-64 Linux).
  *
  * What is said here of answers and of the lent room is proved, for every certificate, issuer, profile, number and room
  * (crates/export); the few functions below that take an answer or a report apart are plain C.
  *
  *     rt staticlib export                  writes target/staticlib/libexport.a
  *     cc -I include program.c target/staticlib/libexport.a
+ *
+ * examples/c has a program that uses it. A program in Rust declares the two functions in an extern "C" block, with
+ * *const u8 or *mut u8 and usize for each pointer and its length, u8, u32 and u64.
  *
  * THE CALLER SEES TO IT that no pointer is null, that each points to as many octets as the length behind it says, that
  * the room is apart from the certificate and the issuer, and that nothing else writes to any of them during the call.
