@@ -3,7 +3,7 @@
 use std::collections::BTreeMap;
 
 use crate::hex;
-use crate::program::{programs_are_left_out, Program};
+use crate::program::Program;
 use crate::shrink::shrink;
 
 /// So many frames go to one run of the program.
@@ -33,7 +33,7 @@ impl Frame {
     }
 
     /// Writes the kind, two octets of length, high octet first, and then the octets.
-    fn write(&self, input: &mut Vec<u8>) {
+    pub fn write(&self, input: &mut Vec<u8>) {
         let length = u16::try_from(self.octets.len()).expect("a frame has at most 65,535 octets");
         input.push(self.kind);
         input.extend(length.to_be_bytes());
@@ -122,11 +122,7 @@ pub struct Questioning {
 impl Questioning {
     /// Starts asking a program; nothing where the programs are left out.
     pub fn of(name: &str, expected: Expectation) -> Option<Questioning> {
-        if programs_are_left_out() {
-            println!("skipped: {name} was not run, because DLO_NO_PROGRAMS=1 leaves the programs out");
-            return None;
-        }
-        let program = Program::find(name).unwrap_or_else(|why| panic!("{why}"));
+        let program = Program::unless_left_out(name, name)?;
         assert_eq!(program.run(&[], &[]), b"", "nothing is answered to no frame");
         Some(Questioning { program, expected, differing: 0, shown: Vec::new() })
     }

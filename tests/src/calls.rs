@@ -6,9 +6,10 @@ use std::collections::BTreeMap;
 use reference::{lint, report_octets, Answer, Entry, Refusal};
 
 use crate::amount::say;
+use crate::answers::Frame;
 use crate::hex;
 use crate::invariants::{hold_place, hold_report};
-use crate::program::{programs_are_left_out, Program};
+use crate::program::Program;
 use crate::shrink::shrink;
 
 /// The kind of a frame that asks for a call of the linter.
@@ -63,7 +64,7 @@ impl Call {
 }
 
 /// The complete answer to a call: the line, and the room as the linter left it.
-#[derive(Clone, Debug, PartialEq, Eq)]
+#[derive(Clone, Debug, Default, PartialEq, Eq)]
 pub struct Outcome {
     pub line: String,
     pub room: Vec<u8>,
@@ -74,16 +75,35 @@ impl Outcome {
     /// was; all of it as it was on refusal.
     pub fn of(answer: &Answer, room: usize) -> Outcome {
         let mut octets = fresh_room(room);
-        let line = match answer {
-            Answer::Refused(Refusal { number, side, place }) => {
-                format!("refused {number} side {side} at {place}")
-            }
-            Answer::Report(entries) => {
-                octets[..6 * entries.len()].copy_from_slice(&report_octets(entries));
-                format!("findings {}", entries.len())
-            }
-        };
-        Outcome { line, room: octets }
+        put_report(answer, &mut octets);
+        Outcome { line: line_of(answer), room: octets }
+    }
+
+    /// Where this outcome is another than the one that is due, in words.
+    pub fn difference_from(&self, due: &Outcome) -> Option<String> {
+        if self.line != due.line {
+            return Some(format!("{:?} is due, and it was {:?}", due.line, self.line));
+        }
+        if self.room == due.room {
+            return None;
+        }
+        let place = self.room.iter().zip(&due.room).position(|(octet, due)| octet != due);
+        Some(format!("{:?}: the room differs, first at octet {place:?}", self.line))
+    }
+
+    /// The first of the outcomes that a program wrote, with a room of this length behind its line.
+    /// What was written after it stays.
+    pub fn take(written: &mut &[u8], room: usize) -> Outcome {
+        let mut outcome = Outcome { line: take_line(written), room: Vec::new() };
+        outcome.take_room(written, room);
+        outcome
+    }
+
+    /// Takes the room's octets from behind the line.
+    pub fn take_room(&mut self, written: &mut &[u8], room: usize) {
+        let (room, rest) = written.split_at_checked(room).expect("the whole room follows its line");
+        self.room = room.to_vec();
+        *written = rest;
     }
 
     /// The answer that the line and the front of the room say. The reference has no part in this.
@@ -118,6 +138,33 @@ impl Outcome {
         } else {
             Err("the line is written otherwise, or the room is changed where there is no entry".to_string())
         }
+    }
+}
+
+/// The next line that a program wrote, without its end. What was written after it stays.
+pub fn take_line(written: &mut &[u8]) -> String {
+    let end = written.iter().position(|octet| *octet == b'\n').expect("a line ends in LF");
+    let line = String::from_utf8_lossy(&written[..end]).into_owned();
+    *written = &written[end + 1..];
+    line
+}
+
+/// What the program writes of an answer.
+pub fn line_of(answer: &Answer) -> String {
+    match answer {
+        Answer::Refused(refusal) => refusal_line(refusal),
+        Answer::Report(entries) => format!("findings {}", entries.len()),
+    }
+}
+
+pub fn refusal_line(Refusal { number, side, place }: &Refusal) -> String {
+    format!("refused {number} side {side} at {place}")
+}
+
+/// The entries of an answer go to the front of the room, and the rest stays.
+pub fn put_report(answer: &Answer, room: &mut [u8]) {
+    if let Answer::Report(entries) = answer {
+        room[..6 * entries.len()].copy_from_slice(&report_octets(entries));
     }
 }
 
@@ -185,14 +232,7 @@ pub struct Linter {
 
 impl Linter {
     pub fn find() -> Linter {
-        let program = if programs_are_left_out() {
-            println!(
-                "skipped: the proved linter was not asked, because DLO_NO_PROGRAMS=1 leaves the programs out"
-            );
-            None
-        } else {
-            Some(Program::find("answers").unwrap_or_else(|why| panic!("{why}")))
-        };
+        let program = Program::unless_left_out("answers", "the proved linter");
         let (waiting, given, shown) = (Vec::new(), Given::default(), Vec::new());
         Linter { program, waiting, octets: 0, given, differing: 0, shown }
     }
@@ -265,17 +305,9 @@ impl Linter {
     /// What the linter answers to each call.
     pub fn outcomes(&self, calls: &[&Call]) -> Vec<Outcome> {
         let Some(program) = &self.program else { return Vec::new() };
-        let input = calls.iter().map(|call| frame(&call.octets())).collect::<Vec<_>>().concat();
-        let written = program.run(&[], &input);
+        let written = program.run(&[], &input_of(calls.iter().map(|call| call.octets())));
         let mut rest = written.as_slice();
-        let mut outcomes = Vec::new();
-        for call in calls {
-            let end = rest.iter().position(|octet| *octet == b'\n').expect("a line ends in LF");
-            let line = String::from_utf8_lossy(&rest[..end]).into_owned();
-            let room = rest.get(end + 1..end + 1 + call.room).expect("the whole room follows its line");
-            outcomes.push(Outcome { line, room: room.to_vec() });
-            rest = &rest[end + 1 + call.room..];
-        }
+        let outcomes = calls.iter().map(|call| Outcome::take(&mut rest, call.room)).collect();
         assert!(rest.is_empty(), "nothing is written that was not asked for");
         outcomes
     }
@@ -283,8 +315,8 @@ impl Linter {
     /// The lines that the program writes for frames of a call's kind whose octets make no call.
     pub fn lines_on(&self, frames: &[Vec<u8>]) -> Vec<String> {
         let Some(program) = &self.program else { return Vec::new() };
-        let input = frames.iter().map(|octets| frame(octets)).collect::<Vec<_>>().concat();
-        String::from_utf8_lossy(&program.run(&[], &input)).lines().map(str::to_string).collect()
+        let written = program.run(&[], &input_of(frames.iter().cloned()));
+        String::from_utf8_lossy(&written).lines().map(str::to_string).collect()
     }
 
     /// Asks what waits, and fails if any call differed.
@@ -306,9 +338,12 @@ impl Linter {
     }
 }
 
-fn frame(octets: &[u8]) -> Vec<u8> {
-    let length = u16::try_from(octets.len()).expect("a frame has at most 65,535 octets");
-    [&[CALL], &length.to_be_bytes()[..], octets].concat()
+fn input_of(calls: impl Iterator<Item = Vec<u8>>) -> Vec<u8> {
+    let mut input = Vec::new();
+    for octets in calls {
+        Frame::of_kind(CALL, octets).write(&mut input);
+    }
+    input
 }
 
 #[cfg(test)]

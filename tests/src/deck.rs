@@ -3,6 +3,7 @@
 use reference::{Answer, Entry, Event, Loss, Refusal};
 
 use crate::correct::Case;
+use crate::holding::octets_needed;
 use crate::random::Random;
 
 pub const BLOCK: usize = 512;
@@ -98,7 +99,11 @@ pub struct Deck {
 
 impl Deck {
     pub fn push_record(&mut self, record: &Record) {
-        let blocks = record.blocks();
+        self.push_whole(record, &record.blocks());
+    }
+
+    /// The blocks of a record, all of them.
+    pub fn push_whole(&mut self, record: &Record, blocks: &[Vec<u8>]) {
         self.fates.push(Fate::Record(Box::new(record.clone()), blocks.len()));
         self.octets.extend(blocks.concat());
     }
@@ -126,6 +131,15 @@ impl Deck {
             }
         }
         events
+    }
+
+    /// How many octets the report of each record takes.
+    pub fn needs(&self) -> Vec<usize> {
+        let records = self.fates.iter().filter_map(|fate| match fate {
+            Fate::Record(record, _) => Some(octets_needed(&record.case.expected)),
+            Fate::Lost(_) => None,
+        });
+        records.collect()
     }
 
     /// How many blocks there are, a short one counted.
@@ -256,6 +270,77 @@ pub fn push_damaged(deck: &mut Deck, record: &Record, damage: Damage, random: &m
             push_all_stray(deck, &other[1..]);
         }
         Damage::NumbersDiffer | Damage::PartsOfTwoRecords => deck.push_record(record),
+    }
+}
+
+/// The ways in which a block is spoiled where it stands, so that it fails its check.
+#[derive(Clone, Copy, Debug, PartialEq, Eq, PartialOrd, Ord)]
+pub enum Spoiling {
+    /// "One byte of a good block changed", the check's own among them
+    OctetChanged,
+    /// "two unequal bytes of it before the check exchanged"
+    OctetsExchanged,
+    AllZero,
+    AllOnes,
+    /// Octets by chance.
+    Chance,
+    /// The block's own fields, and octets by chance behind them.
+    ChanceData,
+    /// The check 65,521 too high, where two octets can say that, and else one too high.
+    CheckTooHigh,
+}
+
+pub const SPOILINGS: [Spoiling; 7] = [
+    Spoiling::OctetChanged,
+    Spoiling::OctetsExchanged,
+    Spoiling::AllZero,
+    Spoiling::AllOnes,
+    Spoiling::Chance,
+    Spoiling::ChanceData,
+    Spoiling::CheckTooHigh,
+];
+
+/// Spoils a good block. It fails its check then, and nothing else of it counts.
+pub fn spoil(block: &mut [u8], spoiling: Spoiling, random: &mut Random) {
+    match spoiling {
+        Spoiling::OctetChanged => change_octet(block, BLOCK, random),
+        Spoiling::OctetsExchanged => exchange_octets(block, random),
+        Spoiling::AllZero => block.fill(0),
+        Spoiling::AllOnes => block.fill(0xFF),
+        Spoiling::Chance => fill_by_chance(block, 0, random),
+        Spoiling::ChanceData => fill_by_chance(block, 8, random),
+        Spoiling::CheckTooHigh => raise_check(block),
+    }
+    assert!(fails_its_check(block), "{spoiling:?}: a spoiled block fails its check");
+}
+
+pub fn fails_its_check(block: &[u8]) -> bool {
+    check(block).to_be_bytes() != block[CHECK..]
+}
+
+/// Octets by chance from a place on, and others where chance has found the check.
+fn fill_by_chance(block: &mut [u8], from: usize, random: &mut Random) {
+    loop {
+        block[from..].fill_with(|| random.octet());
+        if fails_its_check(block) {
+            return;
+        }
+    }
+}
+
+fn raise_check(block: &mut [u8]) {
+    let check = check(block);
+    let higher = check.checked_add(65_521).unwrap_or(check.wrapping_add(1));
+    block[CHECK..].copy_from_slice(&higher.to_be_bytes());
+}
+
+/// Adds the blocks of a record after some of them were spoiled where they stand: "Reading gives exactly the records
+/// none of whose blocks was spoiled".
+pub fn push_spoiled(deck: &mut Deck, record: &Record, blocks: &[Vec<u8>], spoiled: &[usize]) {
+    if spoiled.is_empty() {
+        deck.push_whole(record, blocks);
+    } else {
+        push_with_unsound(deck, blocks, spoiled);
     }
 }
 
@@ -412,7 +497,7 @@ fn answer_lines(answer: &Answer) -> String {
     }
 }
 
-fn loss_word(loss: Loss) -> &'static str {
+pub fn loss_word(loss: Loss) -> &'static str {
     match loss {
         Loss::Short => "short",
         Loss::Unsound => "unsound",

@@ -67,7 +67,7 @@ impl Comparison {
     }
 
     /// Fails if any differed or if there was nothing to compare.
-    fn settle(&mut self) {
+    pub fn settle(&mut self) {
         assert!(self.compared > 0, "{}: nothing was compared", self.kind);
         assert!(
             self.differing == 0,

@@ -12,7 +12,7 @@
 //! | `malformed` | certificates that are refused with 4, 5 or 6 at a known place |
 //! | `times` | times at every edge, and whether they are times |
 //! | `mutation`, `mutants`, `trees` | chance changes and chance trees |
-//! | `deck` | decks with every kind of damage, and the listing that is due |
+//! | `records`, `deck` | records of every kind; decks with every kind of damage, and the listing that is due |
 //! | `sample` | the sample deck that ships with the repository |
 //! | `outside` | certificates that nobody here made |
 //! | `verdicts` | octets with their verdicts of soundness, by hand |
@@ -21,6 +21,7 @@
 //! | `program` | running a program of this repository as a process |
 //! | `answers` | a program that answers frames with lines, held to the lines that are expected |
 //! | `calls` | calls of the proved linter, held to the whole answer that is due |
+//! | `writer`, `reader` | the deck's writers and readers, the reference and the proved ones, held alike |
 //! | `random`, `amount`, `hex` | small helpers |
 //!
 //! `cargo test -- --nocapture` shows how many cases of each kind were compared and the table of
@@ -51,8 +52,11 @@ pub mod outside;
 pub mod profile;
 pub mod program;
 pub mod random;
+pub mod reader;
+pub mod records;
 pub mod sample;
 pub mod shrink;
 pub mod times;
 pub mod trees;
 pub mod verdicts;
+pub mod writer;

@@ -20,11 +20,21 @@ pub struct Program {
 }
 
 /// Whether the programs are to be left out, which the environment must say outright.
-pub fn programs_are_left_out() -> bool {
+fn programs_are_left_out() -> bool {
     env::var("DLO_NO_PROGRAMS").is_ok_and(|value| value == "1")
 }
 
 impl Program {
+    /// The program of this name, which has to be there; none, and a line that says so, where the
+    /// programs are left out.
+    pub fn unless_left_out(name: &str, what: &str) -> Option<Program> {
+        if programs_are_left_out() {
+            println!("skipped: {what} was not asked, because DLO_NO_PROGRAMS=1 leaves the programs out");
+            return None;
+        }
+        Some(Program::find(name).unwrap_or_else(|why| panic!("{why}")))
+    }
+
     /// The program of this name, or why it cannot be run.
     pub fn find(name: &str) -> Result<Program, String> {
         let binary = folder_of_programs().join(name);
@@ -70,6 +80,11 @@ impl Program {
     /// Runs the program with this on its standard input, and gives what it wrote to its standard
     /// output. It must end well, and soon.
     pub fn run(&self, arguments: &[&str], input: &[u8]) -> Vec<u8> {
+        self.run_and_hear(arguments, input).0
+    }
+
+    /// The same, and what it said on its standard error.
+    pub fn run_and_hear(&self, arguments: &[&str], input: &[u8]) -> (Vec<u8>, String) {
         let mut command = self.command();
         command.args(arguments).stdin(Stdio::piped()).stdout(Stdio::piped()).stderr(Stdio::piped());
         let mut process =
@@ -92,7 +107,7 @@ impl Program {
         let status = process.wait().unwrap_or_else(|error| panic!("{} does not end: {error}", self.name));
         let said = String::from_utf8_lossy(&said).into_owned();
         assert!(status.success(), "{} ended with {status}: {said}", self.name);
-        written
+        (written, said)
     }
 }
 

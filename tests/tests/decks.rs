@@ -1,91 +1,34 @@
-//! Decks whole and damaged: the reference reads them as the damage says, and prints what the paper
-//! says.
+//! Decks whole and damaged: both readers read them as the damage says, and the reference prints what
+//! the paper says.
 
 use comparison::amount::cases;
-use comparison::correct::{correct, Case};
+use comparison::correct::Case;
 use comparison::deck::*;
 use comparison::element::{Element, LengthForm};
-use comparison::faults::catalogue;
 use comparison::hex;
 use comparison::holding::{Comparison, AMPLE_ROOM};
-use comparison::profile::ALL;
 use comparison::random::Random;
-use reference::{block_check, listing, read_deck, write_record, Answer, Loss, Refusal};
+use comparison::reader::{hold_met, some_room, Reader, MOST_OCTETS};
+use comparison::records::{any_record, linted, of_two_blocks, refused, tiny};
+use comparison::writer::{Writer, Writing};
+use reference::{block_check, listing, Loss};
 
-/// What the program takes at most.
-const MOST_OCTETS: usize = 65_536;
+/// Every kind of step but a record that is refused with 4 or 5, which no record here is.
+const EVERY_STEP: [&str; 10] = [
+    "record without findings",
+    "record with findings",
+    "record refused 1",
+    "record refused 2",
+    "record refused 3",
+    "record refused 6",
+    "record refused 7",
+    "lost short",
+    "lost unsound",
+    "lost stray",
+];
 
 /// A deck is as much work as so many certificates.
 const CERTIFICATES_A_DECK: usize = 20;
-
-/// A record of any kind: correct, faulty, refused, tiny or of the largest size.
-fn any_record(number: u32, random: &mut Random) -> Record {
-    let case = match random.below(8) {
-        0 => tiny(random),
-        1 => largest(random),
-        2 => unknown_profile(random),
-        3 => empty_sides(random),
-        _ => linted(random),
-    };
-    Record { number, case }
-}
-
-fn linted(random: &mut Random) -> Case {
-    let faults = catalogue();
-    let profile = *random.choose(ALL);
-    let mut pair = correct(profile, random);
-    for _ in 0..random.below(3) {
-        let fault = random.choose(&faults);
-        if fault.exists_in(profile) {
-            fault.apply(&mut pair, random);
-            break;
-        }
-    }
-    pair.encode()
-}
-
-fn refused(number: u8, side: u8, place: usize) -> Answer {
-    Answer::Refused(Refusal { number, side, place })
-}
-
-fn tiny(random: &mut Random) -> Case {
-    Case {
-        profile: *random.choose(ALL),
-        certificate: vec![0x30, 0],
-        issuer: vec![0x30, 0],
-        expected: refused(6, 1, 0),
-    }
-}
-
-/// Two elements of the most octets that are allowed: a record of 33 blocks.
-fn largest(random: &mut Random) -> Case {
-    let element = Element::octet_string(&random.octets(8188)).octets();
-    assert_eq!(element.len(), 8192);
-    Case { profile: 2, certificate: element.clone(), issuer: element, expected: refused(6, 1, 0) }
-}
-
-/// The reader asks nothing of the profile octet; the linter refuses it.
-fn unknown_profile(random: &mut Random) -> Case {
-    let case = linted(random);
-    Case { profile: *random.choose(&[0, 4, 5, 255]), expected: refused(3, 0, 0), ..case }
-}
-
-/// Records that our writer would not write and that are well formed all the same.
-fn empty_sides(random: &mut Random) -> Case {
-    let case = linted(random);
-    match random.below(3) {
-        0 => Case { certificate: Vec::new(), issuer: Vec::new(), expected: refused(1, 1, 0), ..case },
-        1 => Case { certificate: Vec::new(), expected: refused(1, 1, 0), ..case },
-        _ => Case { issuer: Vec::new(), expected: refused(2, 2, 0), ..case },
-    }
-}
-
-fn hold_deck(comparison: &mut Comparison, what: &str, deck: &Deck, room: usize) {
-    let answered = read_deck(&deck.octets, room);
-    comparison.hold(what, &deck.events(room), &answered, || {
-        format!("room {room}, deck {}", hex::text(&deck.octets))
-    });
-}
 
 fn hold_listing(comparison: &mut Comparison, what: &str, deck: &Deck) {
     let expected = if deck.octets.len() > MOST_OCTETS {
@@ -124,23 +67,24 @@ fn the_one_is_part_of_what_is_divided() {
 
 #[test]
 fn a_written_record_reads_back_as_it_was() {
-    let mut comparison = Comparison::of("records written and read back");
+    let mut writer = Writer::of("records written");
+    let mut reader = Reader::of("records read back");
     let mut random = Random::for_purpose("read back");
     for number in 1..=400 {
         let record = Record { number, case: linted(&mut random) };
-        let Case { profile, certificate, issuer, .. } = &record.case;
-        let written = write_record(number, *profile, certificate, issuer, 33 * BLOCK);
-        comparison.hold("the blocks", &Ok(record.blocks().concat()), &written, || format!("record {number}"));
+        let blocks = record.blocks().concat();
+        writer.hold("the blocks", Writing::of(&record, blocks.len() + random.below(9)), Ok(blocks));
         let mut deck = Deck::default();
         deck.push_record(&record);
-        hold_deck(&mut comparison, "the record", &deck, AMPLE_ROOM);
+        reader.hold("the record", &deck, some_room(&deck, &mut random));
     }
-    comparison.finish();
+    writer.finish();
+    reader.finish();
 }
 
 #[test]
 fn decks_with_every_kind_of_damage() {
-    let mut comparison = Comparison::of("decks with damage");
+    let mut reader = Reader::of("decks with damage");
     let mut listings = Comparison::of("listings of decks with damage");
     let mut random = Random::for_purpose("damaged decks");
     let mut met = std::collections::BTreeMap::<String, usize>::new();
@@ -157,19 +101,20 @@ fn decks_with_every_kind_of_damage() {
             push_torn(&mut deck, &record, random.below(whole));
             *met.entry("Torn".to_string()).or_default() += 1;
         }
-        let room = if random.once_in(4) { random.below(30) } else { AMPLE_ROOM };
-        hold_deck(&mut comparison, "a damaged deck", &deck, room);
+        let room = some_room(&deck, &mut random);
+        reader.hold("a damaged deck", &deck, room);
         hold_listing(&mut listings, "a damaged deck", &deck);
     }
-    comparison.finish();
+    let steps = reader.finish();
     listings.finish();
+    hold_met(&steps, &EVERY_STEP);
     println!("damage: {met:?}");
     assert_eq!(met.len(), DAMAGES.len() + 1, "every kind of damage was met");
 }
 
 #[test]
 fn one_block_damaged_in_every_way_leaves_the_others() {
-    let mut comparison = Comparison::of("decks of three records, one of them damaged");
+    let mut reader = Reader::of("decks of three records, one of them damaged");
     let mut random = Random::for_purpose("one damaged");
     for damage in DAMAGES {
         for _ in 0..20 {
@@ -177,15 +122,15 @@ fn one_block_damaged_in_every_way_leaves_the_others() {
             deck.push_record(&any_record(1, &mut random));
             push_damaged(&mut deck, &any_record(2, &mut random), damage, &mut random);
             deck.push_record(&any_record(3, &mut random));
-            hold_deck(&mut comparison, &format!("{damage:?}"), &deck, AMPLE_ROOM);
+            reader.hold(&format!("{damage:?}"), &deck, some_room(&deck, &mut random));
         }
     }
-    comparison.finish();
+    reader.finish();
 }
 
 #[test]
 fn blocks_exchanged_between_two_records() {
-    let mut comparison = Comparison::of("decks with blocks exchanged between two records");
+    let mut reader = Reader::of("decks with blocks exchanged between two records");
     let mut random = Random::for_purpose("exchanged blocks");
     for _ in 0..400 {
         let mut deck = Deck::default();
@@ -193,20 +138,20 @@ fn blocks_exchanged_between_two_records() {
         let (second, third) = (any_record(2, &mut random), any_record(3, &mut random));
         push_exchanged(&mut deck, &second, &third, &mut random);
         deck.push_record(&any_record(4, &mut random));
-        hold_deck(&mut comparison, "exchanged blocks", &deck, AMPLE_ROOM);
+        reader.hold("exchanged blocks", &deck, some_room(&deck, &mut random));
     }
-    comparison.finish();
+    reader.finish();
 }
 
 #[test]
 fn spoiling_a_good_block_always_fails_its_check() {
-    let mut comparison = Comparison::of("spoiled blocks: one octet, two octets exchanged, all 00, all FF");
+    let mut reader = Reader::of("spoiled blocks: one octet, two octets exchanged, all 00, all FF");
     let mut random = Random::for_purpose("spoiled blocks");
     let good = Record { number: 1, case: tiny(&mut random) }.blocks().remove(0);
     let mut lost = |block: &[u8]| {
         let mut deck = Deck::default();
         deck.push_lost(block, Loss::Unsound);
-        hold_deck(&mut comparison, "a spoiled block", &deck, AMPLE_ROOM);
+        reader.hold("a spoiled block", &deck, 0);
     };
     for position in 0..BLOCK {
         for _ in 0..4 {
@@ -222,32 +167,26 @@ fn spoiling_a_good_block_always_fails_its_check() {
     }
     lost(&[0; BLOCK]);
     lost(&[0xFF; BLOCK]);
-    comparison.finish();
+    reader.finish();
 }
 
 #[test]
 fn every_length_of_a_torn_deck() {
-    let mut comparison = Comparison::of("decks torn at every octet");
+    let mut reader = Reader::of("decks torn at every octet");
     let mut random = Random::for_purpose("torn decks");
-    let (first, second) = (any_two_block_record(1, &mut random), any_two_block_record(2, &mut random));
+    let [first, second] = [1, 2].map(|number| Record { number, case: of_two_blocks(&mut random) });
     for kept in 0..second.blocks().len() * BLOCK {
         let mut deck = Deck::default();
         deck.push_record(&first);
         push_torn(&mut deck, &second, kept);
-        hold_deck(&mut comparison, "a torn deck", &deck, AMPLE_ROOM);
+        reader.hold("a torn deck", &deck, 7);
     }
-    comparison.finish();
-}
-
-fn any_two_block_record(number: u32, random: &mut Random) -> Record {
-    let certificate = Element::octet_string(&random.octets(600)).octets();
-    let case = Case { profile: 1, certificate, issuer: vec![0x30, 0], expected: refused(6, 1, 0) };
-    Record { number, case }
+    reader.finish();
 }
 
 #[test]
 fn records_that_just_fill_their_blocks() {
-    let mut comparison = Comparison::of("records of every length around the end of a block");
+    let mut reader = Reader::of("records of every length around the end of a block");
     for blocks in [1, 2, 3, 32] {
         for length in blocks * 502 - 3..=blocks * 502 + 3 {
             let certificate = Element::octet_string(&vec![7; 200]).octets();
@@ -257,10 +196,10 @@ fn records_that_just_fill_their_blocks() {
             let mut deck = Deck::default();
             deck.push_record(&Record { number: 5, case: Case { profile: 1, certificate, issuer, expected } });
             assert_eq!(deck.blocks(), length.div_ceil(502));
-            hold_deck(&mut comparison, "a record at the edge", &deck, AMPLE_ROOM);
+            reader.hold("a record at the edge", &deck, 7);
         }
     }
-    comparison.finish();
+    reader.finish();
 }
 
 #[test]

@@ -1,10 +1,9 @@
-// Calls of the linter.
-use crate::lines::say;
-use crate::lines::say_refusal;
-use lint::Answer;
+// Calls of the linter and of the writer.
+use crate::lines::say_answer;
+use crate::lines::say_written;
 
 // Octets that differ from their neighbours and from those 256 places on, so that a changed one shows.
-fn fill(room: &mut [u8]) {
+pub fn fill(room: &mut [u8]) {
     let mut i = 0;
     while i < room.len() {
         room[i] = (i % 251) as u8;
@@ -12,24 +11,20 @@ fn fill(room: &mut [u8]) {
     }
 }
 
-fn call(certificate: &[u8], issuer: &[u8], profile: u8, room: &mut [u8]) {
-    fill(room);
-    let answer = lint::lint(certificate, issuer, profile, room);
-    match answer {
-        Answer::Report(count) => say(b"findings ", count),
-        Answer::Refused(r) => say_refusal(lint::number_of(r), lint::side_of(r), lint::place_of(r)),
-    }
-    io::write_all(1, room);
+pub fn say_no_call() {
+    io::write_all(1, b"no call\n");
 }
 
-fn say_no_call() {
-    io::write_all(1, b"no call\n");
+fn call_linter(certificate: &[u8], issuer: &[u8], profile: u8, room: &mut [u8]) {
+    fill(room);
+    say_answer(lint::lint(certificate, issuer, profile, room));
+    io::write_all(1, room);
 }
 
 // Answers a frame of kind 12 with a part of the room that is lent.
 pub fn answer_call(frame: &[u8], room: &mut [u8]) {
     let profile = octets::octet(frame, 0);
-    let size = 65536 * octets::wide(octets::octet(frame, 1)) + octets::pair(frame, 2);
+    let size = octets::number(frame, 1, 0, 3);
     let cut = 6 + octets::pair(frame, 4);
     if frame.len() < cut {
         return say_no_call();
@@ -37,5 +32,32 @@ pub fn answer_call(frame: &[u8], room: &mut [u8]) {
     if room.len() < size {
         return say_no_call();
     }
-    call(&frame[6..cut], &frame[cut..], profile, &mut room[..size]);
+    call_linter(&frame[6..cut], &frame[cut..], profile, &mut room[..size]);
+}
+
+fn call_writer(number: u32, certificate: &[u8], issuer: &[u8], profile: u8, room: &mut [u8]) {
+    fill(room);
+    say_written(writer::write_record(number, profile, certificate, issuer, room));
+    io::write_all(1, room);
+}
+
+// Answers a frame of kind 13 with a part of the room that is lent.
+pub fn answer_writing(frame: &[u8], room: &mut [u8]) {
+    let number = 65536 * octets::pair(frame, 0) + octets::pair(frame, 2);
+    let profile = octets::octet(frame, 4);
+    let size = octets::number(frame, 5, 0, 3);
+    let cut = 10 + octets::pair(frame, 8);
+    if frame.len() < cut {
+        return say_no_call();
+    }
+    if room.len() < size {
+        return say_no_call();
+    }
+    call_writer(
+        number as u32,
+        &frame[10..cut],
+        &frame[cut..],
+        profile,
+        &mut room[..size],
+    );
 }

@@ -1,4 +1,8 @@
 // Lines of words and numbers. A line is put together first and written at once.
+use lint::Answer;
+use lint::Refusal;
+use reader::Loss;
+use reader::Record;
 
 // So many octets hold every line.
 const LINE: usize = 80;
@@ -25,6 +29,44 @@ fn put_number(line: &mut [u8], n: usize, number: usize) -> usize {
     put_text(line, n, &digits[..k])
 }
 
+// The same with a text and a number.
+fn put(line: &mut [u8], n: usize, text: &[u8], number: usize) -> usize {
+    let a = put_text(line, n, text);
+    put_number(line, a, number)
+}
+
+// The same with a refusal.
+fn put_refusal(line: &mut [u8], n: usize, r: Refusal) -> usize {
+    let a = put(line, n, b"refused ", lint::number_of(r));
+    let b = put(line, a, b" side ", lint::side_of(r));
+    put(line, b, b" at ", lint::place_of(r))
+}
+
+// The same with the linter's answer.
+fn put_answer(line: &mut [u8], n: usize, answer: Answer) -> usize {
+    match answer {
+        Answer::Report(count) => put(line, n, b"findings ", count),
+        Answer::Refused(r) => put_refusal(line, n, r),
+    }
+}
+
+// The same with the writer's.
+fn put_written(line: &mut [u8], n: usize, answer: writer::Answer) -> usize {
+    match answer {
+        writer::Answer::Blocks(count) => put(line, n, b"blocks ", count),
+        writer::Answer::Refused(r) => put_refusal(line, n, r),
+    }
+}
+
+// The same with why a block is lost.
+fn put_loss(line: &mut [u8], n: usize, loss: Loss) -> usize {
+    match loss {
+        Loss::Short => put_text(line, n, b" short"),
+        Loss::Unsound => put_text(line, n, b" unsound"),
+        Loss::Stray => put_text(line, n, b" stray"),
+    }
+}
+
 // Writes the first n octets of a line.
 fn write(line: &[u8], n: usize) {
     if n <= line.len() {
@@ -32,24 +74,53 @@ fn write(line: &[u8], n: usize) {
     }
 }
 
+// Ends a line after its first n octets and writes it.
+fn end(line: &mut [u8], n: usize) {
+    let a = put_text(line, n, b"\n");
+    write(line, a);
+}
+
 // Writes a line of a text and a number.
 pub fn say(text: &[u8], number: usize) {
     let mut line = [0u8; LINE];
-    let a = put_text(&mut line, 0, text);
-    let b = put_number(&mut line, a, number);
-    let c = put_text(&mut line, b, b"\n");
-    write(&line, c);
+    let a = put(&mut line, 0, text, number);
+    end(&mut line, a);
 }
 
-// Writes a refusal's line.
-pub fn say_refusal(number: usize, side: usize, place: usize) {
+pub fn say_answer(answer: Answer) {
     let mut line = [0u8; LINE];
-    let a = put_text(&mut line, 0, b"refused ");
-    let b = put_number(&mut line, a, number);
-    let c = put_text(&mut line, b, b" side ");
-    let d = put_number(&mut line, c, side);
-    let e = put_text(&mut line, d, b" at ");
-    let f = put_number(&mut line, e, place);
-    let g = put_text(&mut line, f, b"\n");
-    write(&line, g);
+    let a = put_answer(&mut line, 0, answer);
+    end(&mut line, a);
+}
+
+pub fn say_written(answer: writer::Answer) {
+    let mut line = [0u8; LINE];
+    let a = put_written(&mut line, 0, answer);
+    end(&mut line, a);
+}
+
+pub fn say_record(record: Record) {
+    let mut line = [0u8; LINE];
+    let a = put(&mut line, 0, b"record ", record.number);
+    let b = put(&mut line, a, b" profile ", octets::wide(record.profile));
+    let c = put(&mut line, b, b" length ", record.length);
+    let d = put_text(&mut line, c, b" ");
+    let answer = record.answer;
+    let e = put_answer(&mut line, d, answer);
+    end(&mut line, e);
+}
+
+pub fn say_lost(position: usize, loss: Loss) {
+    let mut line = [0u8; LINE];
+    let a = put(&mut line, 0, b"lost ", position);
+    let b = put_loss(&mut line, a, loss);
+    end(&mut line, b);
+}
+
+pub fn say_counts(records: usize, blocks: usize, lost: usize) {
+    let mut line = [0u8; LINE];
+    let a = put(&mut line, 0, b"records ", records);
+    let b = put(&mut line, a, b" blocks ", blocks);
+    let c = put(&mut line, b, b" lost ", lost);
+    end(&mut line, c);
 }

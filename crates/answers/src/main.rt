@@ -9,7 +9,19 @@
 // length, at most 65,536, whose octet at place i is i modulo 251. The line is `findings N` or `refused R side S at P`,
 // and directly behind it come the room's octets as the linter left them, as many as its length says. A frame that is
 // too short for its own lengths, or asks for more room, gets the line `no call` and nothing behind it.
+//
+// Kind 13 asks for a call of the deck's writer. Its octets are the record's number in four octets, and then as in kind
+// 12, the room too. The line is `blocks N` or `refused R side S at P`; the room's octets and `no call` are as there.
+//
+// Kind 14 asks for the reading of a deck. Its octets are six, the room's length and the deck's in three octets each, both at
+// most 65,536, and the deck's octets come directly behind the frame. The room is filled once as in kind 12 and lent
+// again at each step, from block 0 to the end. A step that hands out a record writes `record NUMBER profile P length N
+// findings K` or `record NUMBER profile P length N refused R side S at P`, and directly behind that line the room's
+// octets; one that meets a lost block writes `lost POSITION short`, `unsound` or `stray`. The last line is `records R
+// blocks B lost L`. Other than six octets, or more of room or of deck, get the line `no call`, and no deck is read; a
+// deck that is cut off by the end of the input gets nothing.
 mod calls;
+mod decks;
 mod lines;
 
 use asn::Verdict;
@@ -51,17 +63,59 @@ fn answer_value(octets: &[u8], slot: usize) {
     }
 }
 
-// Fills the frame from the input, answers it, and says whether it was whole.
-fn answer_frame(kind: u8, frame: &mut [u8], room: &mut [u8]) -> bool {
-    if io::read_full(0, frame) != frame.len() {
-        return false;
-    }
+fn answer_frame(kind: u8, frame: &[u8], room: &mut [u8]) {
     match kind {
         0 => answer_certificate(frame),
         11 => answer_encoding(frame),
         12 => calls::answer_call(frame, room),
+        13 => calls::answer_writing(frame, room),
         _ => answer_value(frame, octets::wide(kind)),
     }
+}
+
+// Fills the deck from the input, answers it, and says whether it was whole.
+fn read_deck(deck: &mut [u8], room: &mut [u8]) -> bool {
+    if io::read_full(0, deck) != deck.len() {
+        return false;
+    }
+    decks::answer_deck(deck, room);
+    true
+}
+
+fn no_deck() -> bool {
+    calls::say_no_call();
+    true
+}
+
+// Answers a frame of kind 14, whose n octets stand at the front of the space that then takes the deck, and says whether
+// to go on.
+fn answer_next_deck(n: usize, space: &mut [u8], room: &mut [u8]) -> bool {
+    let size = octets::number(space, 0, 0, 3);
+    let length = octets::number(space, 3, 0, 3);
+    if n != 6 {
+        return no_deck();
+    }
+    if room.len() < size {
+        return no_deck();
+    }
+    if space.len() < length {
+        return no_deck();
+    }
+    read_deck(&mut space[..length], &mut room[..size])
+}
+
+// Reads a frame of n octets to the front of the space, answers it, and says whether to go on.
+fn answer_next_of(kind: u8, n: usize, space: &mut [u8], room: &mut [u8]) -> bool {
+    if space.len() < n {
+        return false;
+    }
+    if io::read_full(0, &mut space[..n]) != n {
+        return false;
+    }
+    if kind == 14 {
+        return answer_next_deck(n, space, room);
+    }
+    answer_frame(kind, &space[..n], room);
     true
 }
 
@@ -71,12 +125,7 @@ fn answer_next(space: &mut [u8], room: &mut [u8]) -> bool {
     if io::read_full(0, &mut head) != 3 {
         return false;
     }
-    let kind = octets::octet(&head, 0);
-    let n = octets::pair(&head, 1);
-    if n <= space.len() {
-        return answer_frame(kind, &mut space[..n], room);
-    }
-    false
+    answer_next_of(octets::octet(&head, 0), octets::pair(&head, 1), space, room)
 }
 
 // A proved loop has to end, and nothing says that its input does: it counts its turns down from a number that no
@@ -88,7 +137,7 @@ fn answer_all(space: &mut [u8], room: &mut [u8]) {
     }
 }
 
-// Frames come into `space`, and the linter gets `room`.
+// Frames and decks come into `space`, and the linter, the writer and the reader get `room`.
 fn main() {
     let mut space = io::large_buffer();
     let mut room = io::large_buffer();

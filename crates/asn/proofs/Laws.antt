@@ -6,3 +6,4 @@ pub mod Steps
 pub mod Roots
 pub mod Answers
 pub mod Fields
+pub mod Places

@@ -6,3 +6,4 @@ pub mod Children
 pub mod Any
 pub mod Walks
 pub mod Walking
+pub mod Places

@@ -5,3 +5,4 @@ pub mod Table
 pub mod Order
 pub mod Statements
 pub mod Rooms
+pub mod Bounds

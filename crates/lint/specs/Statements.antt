@@ -2,16 +2,36 @@
 use mathlib.Core.Bool.{true}
 use mathlib.Core.List.{List}
 use mathlib.Core.Path.{_≡_}
-use Prim.Native.Nat.{ℕ}
+use Prim.Native.Nat.{ℕ, _<_}
 use lib.ListN.{length}
 use Rattle.der.specs.Soundness.{derSoundness}
 use Rattle.der.specs.declared.walk.Soundness.the-variants.{Sound}
 use Rattle.asn.specs.Answers.{certificateVerdict}
 use Rattle.asn.specs.declared.fitting.Verdict.the-variants.{Fits}
 use Rattle.lint.specs.Judging.{lengthOk}
+use Rattle.lint.specs.declared.refusals.Side.{Side}
+use Rattle.lint.specs.declared.refusals.Side.the-variants.{Certificate, Issuer}
+use Rattle.lint.specs.declared.refusals.Refusal.{Refusal}
+use Rattle.lint.specs.declared.refusals.Refusal.the-variants as Refusals
 
 -- a side that refusals 1, 2, 4, 5 and 6 leave alone
 pub record Acceptable (s : List ℕ) : Type 0 where
   pub sized : lengthOk (length s) ≡ true
   pub sound : derSoundness s ≡ Sound
   pub fits : certificateVerdict s ≡ Fits
+
+-- the octets of a side
+abbrev pub sideOctets : List ℕ → List ℕ → Side → List ℕ
+sideOctets certificate issuer Certificate = certificate
+sideOctets certificate issuer Issuer = issuer
+
+-- "A refusal's place is a start within its side." 4, 5 and 6 alone look into a side; the place of the others is 0.
+abbrev pub WithinSide : List ℕ → List ℕ → Refusal → Type 0
+WithinSide certificate issuer (Refusals.Unsound side place) = place < length (sideOctets certificate issuer side)
+WithinSide certificate issuer (Refusals.Unordered side place) = place < length (sideOctets certificate issuer side)
+WithinSide certificate issuer (Refusals.NotCertificate side place) = place < length (sideOctets certificate issuer side)
+WithinSide certificate issuer Refusals.CertificateLength = Unit {0}
+WithinSide certificate issuer Refusals.IssuerLength = Unit {0}
+WithinSide certificate issuer Refusals.UnknownProfile = Unit {0}
+WithinSide certificate issuer Refusals.NoRoom = Unit {0}
+WithinSide certificate issuer Refusals.NoNumber = Unit {0}

@@ -28,12 +28,12 @@ pub run-item : (number : ℕ) (p : List ℕ) → 0 < number → number < 2 ^ 32 
 unfolding itemAt roomAt
 run-item number p h₀ hnumber ok deck position lent rest inside e = (
   rw (
-        lt-ltb _ _ inside,
-        e,
-        blocks-start p ok number h₀ hnumber rest,
-        first-number p ok number h₀ hnumber rest,
-        blocks-record p ok number h₀ hnumber rest,
-      ),
+    lt-ltb _ _ inside,
+    e,
+    blocks-start p ok number h₀ hnumber rest,
+    first-number p ok number h₀ hnumber rest,
+    blocks-record p ok number h₀ hnumber rest,
+  ),
   rw (lt-ltb _ _ inside, e, blocks-start p ok number h₀ hnumber rest, blocks-record p ok number h₀ hnumber rest),
 )
 

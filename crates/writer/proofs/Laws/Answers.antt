@@ -1,8 +1,9 @@
 -- The writer's answer, with the room that goes with it.
---     taken-only     blocks are answered only where no refusal applies
---     answered       an answer and its room are the whole answer
+--     taken-only          blocks are answered only where no refusal applies
+--     answered            an answer and its room are the whole answer
+--     refused-nowhere     the place of every refusal is 0
 -- Assumes nothing.
-use mathlib.Core.Path.{_≡_, refl, sym}
+use mathlib.Core.Path.{_≡_, refl, sym, subst}
 use mathlib.Core.Bool.{Bool, true, false, cond}
 use mathlib.Core.List.{List}
 use mathlib.Core.Logic.{_≢_}
@@ -12,11 +13,13 @@ use lib.Dec.{eqb, leb}
 use lib.ListN.{length}
 use borrow.Author.Tests.{eqb-false, leb-true}
 use Rattle.profiles.specs.declared.fields.Profile.{Profile}
+use Rattle.lint.specs.Refusals.{placeOf}
 use Rattle.lint.specs.Judging.{admissionOf}
 use Rattle.lint.specs.declared.refusals.Refusal.{Refusal}
 use Rattle.lint.specs.declared.refusals.Refusal.the-variants.{NoNumber, NoRoom}
 use Rattle.lint.specs.declared.judging.Judgement.{Judgement}
 use Rattle.lint.specs.declared.judging.Judgement.the-variants as Judgements
+use Rattle.lint.proofs.Laws.Bounds.{admission-nowhere}
 use Rattle.blocks.specs.Record.{recordOf, parts}
 use Rattle.writer.specs.Cutting.{blocksOf}
 use Rattle.writer.specs.Answers.{byRoom, byAdmission, writeAnswer, roomAfter, writeRoom, Written}
@@ -67,3 +70,22 @@ module _ (number profile : ℕ) (certificate issuer room : List ℕ) where
       → last ≡ roomAfter r (blocksOf number (recordOf profile certificate issuer)) room → Written number profile certificate issuer room r last
   unfolding writeRoom
   answered r last e b = record { told = sym e; bytes = rw e b }
+
+-- the linter's 1, 2 and 3, then 8 and 7, which look into no side
+abbrev Nowhere : Answer → Type 0
+Nowhere (Refused r) = placeOf r ≡ 0
+Nowhere (Blocks count) = Unit {0}
+
+pub refused-nowhere : (number profile : ℕ) (certificate issuer room : List ℕ) (r : Refusal) → writeAnswer number profile certificate issuer room ≡ Refused r → placeOf r ≡ 0
+unfolding writeAnswer
+refused-nowhere number profile certificate issuer room r e =
+    subst Nowhere e (go (admissionOf (length certificate) (length issuer) profile) refl (parts (length (recordOf profile certificate issuer))))
+  where
+    tested : (zero short : Bool) (count : ℕ) → Nowhere (cond zero (Refused NoNumber) (cond short (Blocks count) (Refused NoRoom)))
+    tested true short count = refl
+    tested false true count = tt
+    tested false false count = refl
+
+    go : (admission : Judgement) → admissionOf (length certificate) (length issuer) profile ≡ admission → (count : ℕ) → Nowhere (byAdmission admission number count (length room))
+    go (Judgements.Refused q) t count = admission-nowhere (length certificate) (length issuer) profile q t .place
+    go (Judgements.Accepted p) t count = tested (eqb number 0) (leb (512 * count) (length room)) count

@@ -1,6 +1,6 @@
 -- `answers::calls::fill` is safe and ends. The measure is the number of octets that are left. The invariant: the room keeps its length.
 -- Assumes nothing.
-use mathlib.Core.Path.{_≡_, refl, _∙_}
+use mathlib.Core.Path.{_≡_, refl}
 use Prim.Native.Nat.{_-_}
 use native.Mathlib.Omega.{arith}
 use lib.ListN.{length}

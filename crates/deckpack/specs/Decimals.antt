@@ -1,0 +1,41 @@
+-- What a text of decimal digits says.
+use mathlib.Core.Bool.{Bool, true, cond, _&&_}
+use mathlib.Core.List.{List, [], _∷_}
+use Prim.Native.Nat.{ℕ, _+_, _-_, _*_}
+use lib.Dec.{leb}
+use Rattle.deckpack.specs.declared.decimals.Decimal.{Decimal}
+use Rattle.deckpack.specs.declared.decimals.Decimal.the-variants.{Number, Other}
+
+-- 0 to 9
+abbrev pub isDigit : ℕ → Bool
+isDigit c = leb 48 c && leb c 57
+
+unfoldable pub areDigits : List ℕ → Bool
+areDigits [] = true
+areDigits (c ∷ cs) = isDigit c && areDigits cs
+
+-- the number that digits say, written on behind n
+unfoldable pub valueFrom : ℕ → List ℕ → ℕ
+valueFrom n [] = n
+valueFrom n (c ∷ cs) = valueFrom (10 * n + (c - 48)) cs
+
+-- "octets 0–3 record number"
+abbrev pub largest : ℕ
+largest = 4294967295
+
+-- a number that a record can have
+abbrev pub upTo : Bool → ℕ → Decimal
+upTo digits n = cond (digits && leb n largest) (Number n) Other
+
+-- the digits cs written on behind n
+unfoldable pub decimalFrom : ℕ → List ℕ → Decimal
+decimalFrom n cs = upTo (areDigits cs) (valueFrom n cs)
+
+-- at least one digit and nothing besides
+unfoldable pub decimalOf : List ℕ → Decimal
+decimalOf [] = Other
+decimalOf (c ∷ cs) = decimalFrom 0 (c ∷ cs)
+
+-- one digit written on
+unfoldable pub appended : ℕ → ℕ → Decimal
+appended n c = upTo (isDigit c) (10 * n + (c - 48))

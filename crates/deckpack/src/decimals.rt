@@ -1,0 +1,52 @@
+// Decimal numbers.
+ghost use mathlib.Core.Path.{_≡_};
+ghost use Rattle.deckpack.specs.Decimals.{isDigit, appended, decimalOf};
+
+pub enum Decimal {
+    Number(u32),
+    // no digits, something besides, or a number past four octets
+    Other,
+}
+
+// The largest record number.
+const LARGEST: u64 = 4294967295;
+
+fn is_digit(c: u8) -> bool
+    ensures { λ r. ⌜ r ≡ isDigit c ⌝ }
+{
+    (48 <= c) & (c <= 57)
+}
+
+// A number with a digit written on.
+fn append(number: u32, c: u8) -> Decimal
+    ensures { λ r. ⌜ r ≡ appended number c ⌝ }
+{
+    if !is_digit(c) {
+        return Decimal::Other;
+    }
+    let next = 10 * (number as u64) + ((c - 48) as u64);
+    if next > LARGEST {
+        return Decimal::Other;
+    }
+    Decimal::Number(next as u32)
+}
+
+// The number that the digits of a text say.
+pub fn decimal_of(text: &[u8]) -> Decimal
+    ensures { λ r. ⌜ r ≡ decimalOf (now (text .entry)) ⌝ }
+{
+    if text.len() == 0 {
+        return Decimal::Other;
+    }
+    let mut number: u32 = 0;
+    let mut k: usize = 0;
+    while k < text.len() {
+        let next = append(number, text[k]);
+        let Decimal::Number(n) = next else {
+            return Decimal::Other;
+        };
+        number = n;
+        k += 1;
+    }
+    Decimal::Number(number)
+}

@@ -1,0 +1,151 @@
+-- Bounds of what an answer says.
+--     refusal-inside        "a refusal's place is a start within its side"
+--     refusal-low           so it is below 8,192
+--     admission-nowhere     the place of refusals 1, 2 and 3 is 0
+--     count-fits            as many findings as are counted have room
+-- Assumes nothing.
+use mathlib.Core.Path.{_≡_, refl, subst}
+use mathlib.Core.List.{List}
+use mathlib.Core.Bool.{Bool, true, false, cond}
+use Prim.Native.Nat.{ℕ, _*_, _≤_, _<_}
+use native.Mathlib.Nat.{lt-of-lt-of-le}
+use native.Mathlib.Omega.{arith}
+use lib.ListN.{length}
+use borrow.Author.Tests.{leb-true}
+use Rattle.der.specs.Soundness.{derSoundness, refusalPlace as faultPlace}
+use Rattle.der.specs.declared.walk.Soundness.{Soundness}
+use Rattle.der.specs.declared.walk.Soundness.the-variants.{Sound, Unsound, Unordered}
+use Rattle.der.proofs.Laws.Places.{fault-inside}
+use Rattle.asn.specs.Answers.{certificateVerdict, refusalPlace as departurePlace}
+use Rattle.asn.specs.declared.fitting.Verdict.{Verdict}
+use Rattle.asn.specs.declared.fitting.Verdict.the-variants.{Stranger, Fits, Wrong}
+use Rattle.asn.proofs.Laws.Places.{departure-inside}
+use Rattle.profiles.specs.Fields.{askedOf}
+use Rattle.profiles.specs.declared.fields.Profile.{Profile}
+use Rattle.profiles.specs.declared.fields.Asked.{Asked}
+use Rattle.profiles.specs.declared.fields.Asked.the-variants.{For, Unknown}
+use Rattle.report.specs.Entries.{width}
+use Rattle.report.specs.Answers.{fits}
+use Rattle.report.specs.declared.sink.Entry.{Entry}
+use Rattle.lint.specs.Refusals.{placeOf}
+use Rattle.lint.specs.Judging.{lengthOk, bySoundness, sideJudgement, orElse, bothSides, forProfile, admissionOf, onceAdmitted, judgementOf}
+use Rattle.lint.specs.Findings.{findings}
+use Rattle.lint.specs.Answers.{answerTo, answerBy, answerOf}
+use Rattle.lint.specs.Statements.{sideOctets, WithinSide}
+use Rattle.lint.specs.declared.refusals.Side.{Side}
+use Rattle.lint.specs.declared.refusals.Side.the-variants.{Certificate, Issuer}
+use Rattle.lint.specs.declared.refusals.Refusal.{Refusal}
+use Rattle.lint.specs.declared.refusals.Refusal.the-variants as Refusals
+use Rattle.lint.specs.declared.judging.Judgement.{Judgement}
+use Rattle.lint.specs.declared.judging.Judgement.the-variants as Judgements
+use Rattle.lint.specs.declared.linting.Answer.{Answer}
+use Rattle.lint.specs.declared.linting.Answer.the-variants.{Report, Refused}
+use Rattle.lint.proofs.Laws.Accepted.{admitted-certificate, admitted-issuer}
+
+-- ---- refusals 1, 2 and 3
+
+pub record Nowhere (r : Refusal) : Type 0 where
+  pub place : placeOf r ≡ 0
+  pub within : (certificate issuer : List ℕ) → WithinSide certificate issuer r
+
+abbrev NowhereBy : Judgement → Type 0
+NowhereBy (Judgements.Refused r) = Nowhere r
+NowhereBy (Judgements.Accepted p) = Unit {0}
+
+pub admission-nowhere : (certificate issuer profile : ℕ) (r : Refusal) → admissionOf certificate issuer profile ≡ Judgements.Refused r → Nowhere r
+unfolding admissionOf
+admission-nowhere certificate issuer profile r e = subst NowhereBy e (go (lengthOk certificate) (lengthOk issuer) (askedOf profile))
+  where
+    go : (a b : Bool) (asked : Asked) → NowhereBy (cond a (cond b (forProfile asked) (Judgements.Refused Refusals.IssuerLength)) (Judgements.Refused Refusals.CertificateLength))
+    go true true (For p) = tt
+    go true true Unknown = record { place = refl; within = λ c i. tt }
+    go true false asked = record { place = refl; within = λ c i. tt }
+    go false b asked = record { place = refl; within = λ c i. tt }
+
+-- ---- all refusals of a call
+
+module _ (certificate issuer : List ℕ) where
+  record Placed (r : Refusal) : Type 0 where
+    within : WithinSide certificate issuer r
+    low : placeOf r < 8192
+
+  abbrev PlacedBy : Judgement → Type 0
+  PlacedBy (Judgements.Refused r) = Placed r
+  PlacedBy (Judgements.Accepted p) = Unit {0}
+
+  -- 4, 5 and 6
+  side-placed : (p : Profile) (side : Side) → 1 ≤ length (sideOctets certificate issuer side) → length (sideOctets certificate issuer side) ≤ 8192 → PlacedBy (sideJudgement p side (sideOctets certificate issuer side))
+  unfolding sideJudgement
+  side-placed p side l m =
+      go (derSoundness (sideOctets certificate issuer side)) (certificateVerdict (sideOctets certificate issuer side)) (fault-inside (sideOctets certificate issuer side) 0 (length (sideOctets certificate issuer side)) l) (departure-inside (sideOctets certificate issuer side) l)
+    where
+      go : (d : Soundness) (v : Verdict) → faultPlace d < length (sideOctets certificate issuer side) → departurePlace v < length (sideOctets certificate issuer side) → PlacedBy (bySoundness p side d v)
+      go Sound Fits f g = tt
+      go Sound (Wrong place) f g = record { within = g; low = lt-of-lt-of-le g m }
+      go Sound Stranger f g = record { within = g; low = lt-of-lt-of-le g m }
+      go (Unsound place) v f g = record { within = f; low = lt-of-lt-of-le f m }
+      go (Unordered place) v f g = record { within = f; low = lt-of-lt-of-le f m }
+
+  first-placed : (a b : Judgement) → PlacedBy a → PlacedBy b → PlacedBy (orElse a b)
+  first-placed (Judgements.Refused r) b k l = k
+  first-placed (Judgements.Accepted p) b k l = l
+
+  both-placed : (p : Profile) → (1 ≤ length certificate) × (length certificate ≤ 8192) → (1 ≤ length issuer) × (length issuer ≤ 8192) → PlacedBy (bothSides p certificate issuer)
+  unfolding bothSides
+  both-placed p k l = first-placed (sideJudgement p Certificate certificate) (sideJudgement p Issuer issuer) (side-placed p Certificate (k .0) (k .1)) (side-placed p Issuer (l .0) (l .1))
+
+  judgement-placed : (profile : ℕ) → PlacedBy (judgementOf certificate issuer profile)
+  unfolding judgementOf
+  judgement-placed profile = go (admissionOf (length certificate) (length issuer) profile) refl
+    where
+      go : (a : Judgement) → admissionOf (length certificate) (length issuer) profile ≡ a → PlacedBy (onceAdmitted a certificate issuer)
+      go (Judgements.Refused r) e =
+          let n = admission-nowhere (length certificate) (length issuer) profile r e in
+          record { within = n .within certificate issuer; low = omega (arith, n .place) }
+      go (Judgements.Accepted p) e = both-placed p (admitted-certificate _ _ _ p e) (admitted-issuer _ _ _ p e)
+
+  abbrev PlacedIn : Answer → Type 0
+  PlacedIn (Refused r) = Placed r
+  PlacedIn (Report n) = Unit {0}
+
+  -- 7
+  answer-placed : (es : List Entry) (room : List ℕ) → PlacedIn (answerTo es room)
+  unfolding answerTo
+  answer-placed es room = go (fits es room)
+    where
+      go : (b : Bool) → PlacedIn (cond b (Report (length es)) (Refused Refusals.NoRoom))
+      go true = tt
+      go false = record { within = tt; low = omega arith }
+
+  module _ (profile : ℕ) (room : List ℕ) (r : Refusal) (e : answerOf certificate issuer profile room ≡ Refused r) where
+    placed : Placed r
+    unfolding answerOf
+    placed = subst PlacedIn e (go (judgementOf certificate issuer profile) (judgement-placed profile))
+      where
+        go : (j : Judgement) → PlacedBy j → PlacedIn (answerBy j certificate issuer room)
+        go (Judgements.Refused q) k = k
+        go (Judgements.Accepted p) k = answer-placed (findings p certificate issuer) room
+
+    pub refusal-inside : WithinSide certificate issuer r
+    refusal-inside = placed .within
+
+    pub refusal-low : placeOf r < 8192
+    refusal-low = placed .low
+
+-- ---- findings
+
+abbrev FitsIn : ℕ → Answer → Type 0
+FitsIn room (Report n) = width * n ≤ room
+FitsIn room (Refused r) = Unit {0}
+
+pub count-fits : (certificate issuer : List ℕ) (profile : ℕ) (room : List ℕ) (n : ℕ) → answerOf certificate issuer profile room ≡ Report n → width * n ≤ length room
+unfolding answerOf answerTo
+count-fits certificate issuer profile room n e = subst (FitsIn (length room)) e (go (judgementOf certificate issuer profile))
+  where
+    counted : (es : List Entry) (b : Bool) → fits es room ≡ b → FitsIn (length room) (cond b (Report (length es)) (Refused Refusals.NoRoom))
+    counted es true t = leb-true _ _ t
+    counted es false t = tt
+
+    go : (j : Judgement) → FitsIn (length room) (answerBy j certificate issuer room)
+    go (Judgements.Refused r) = tt
+    go (Judgements.Accepted p) = counted (findings p certificate issuer) (fits (findings p certificate issuer) room) refl
