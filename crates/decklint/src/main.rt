@@ -1,8 +1,8 @@
-// Lists the deck on standard input (document 01, "The deck").
+// Lists the deck on standard input (document 01, "The deck"): prints what `printed` of the crate `listing` says of it.
 //
-// Nothing is printed before the whole deck has been read: where a read fails, standard output stays empty. Where a write
-// fails the program ends there, so a listing that was cut short lacks its last line. Either is said on standard error;
-// a program has no other way to say it, since its exit status is always 0.
+// Nothing is written before the whole deck has been read, so where a read fails standard output stays empty. Where a write
+// fails the program ends there, and the listing lacks its last line. Either is said on standard error, by a line. A
+// program cannot choose its exit status: it is 0 unless a signal ends it, as a write to a pipe that nobody reads does.
 use libc::STDIN_FILENO;
 use libc::STDOUT_FILENO;
 ghost use Prim.Native.Nat.{_≤_};
@@ -55,7 +55,7 @@ fn write(out: &[u8], n: usize) -> bool
 {
     let written = io::write_all(STDOUT_FILENO, &out[..n]);
     if !written {
-        os::fail(b"standard output");
+        os::fail(b"decklint: standard output");
     }
     written
 }
@@ -87,7 +87,7 @@ fn main() {
     let mut out = [0u8; WAITING];
     let input = read_all(&mut space);
     if input.failed {
-        os::fail(b"standard input");
+        os::fail(b"decklint: standard input");
         return;
     }
     let n = input.n;

@@ -1,6 +1,7 @@
 -- "With input of the P12 block, a zero block and 100 more octets it prints all of this" (document 01, "The deck"): from the octets of the deck to
 -- those of the listing, by computation. Assumes nothing.
 use mathlib.Core.Path.{_≡_, refl}
+use Rattle.examples.specs.Table.{p12Deck}
 use Rattle.octets.specs.Octets.{octetsFrom}
 use Rattle.octets.specs.Numbers.{numberFrom}
 use Rattle.der.specs.Header.{headOf, childrenOf, childrenBy}
@@ -25,7 +26,6 @@ use Rattle.reader.specs.Counting.{tallyOf}
 use Rattle.listing.specs.Texts.{word, digitsBy, decimal}
 use Rattle.listing.specs.Lines.{refusalText, recordLine, lostLine, totalLine}
 use Rattle.listing.specs.Listing.{findingLines, recordLines, listingOf, printed}
-use Rattle.examples.specs.Table.{p12Deck}
 
 pub p12-printed : printed p12Deck ≡ word "record 1 profile 1 refused 6 side 1 at 0\nlost 1 unsound\nlost 2 short\nrecords 1 blocks 3 lost 2\n"
 unfolding printed listingOf recordLines findingLines recordLine refusalText lostLine totalLine word decimal digitsBy tallyOf events p12Deck zeroFilled blocksOf blockOf checkOf sound _and_ between blocks isPart isWhole run starts recordFrom lossOf certificateIn issuerIn lintedRoom answerOf roomOf admissionOf askedOf sideJudgement bothSides judgementOf certificateVerdict fits certificate stretchSoundness soundness first elementsOf elementOk primitiveOk arcsOk ascendFrom octetsLe headOf childrenOf childrenBy octetsFrom numberFrom

@@ -7,6 +7,9 @@ use mathlib.Core.Path.{_≡_, refl}
 use mathlib.Core.List.{List, [], _∷_, map}
 use Prim.Native.Nat.{ℕ}
 use Prim.Native.String.{String}
+use Rattle.listing.specs.Texts.{word, digitsBy, decimal}
+use Rattle.listing.specs.Lines.{findingLine, refusalText, recordLine, lostLine, totalLine, tooLongLine}
+use Rattle.listing.specs.Listing.{findingLines, recordLines, linesOf, listingOf, printed}
 use Rattle.report.specs.Entries.{decode}
 use Rattle.lint.specs.declared.refusals.Side.the-variants.{Certificate, Issuer}
 use Rattle.lint.specs.declared.refusals.Refusal.the-variants.{Unsound, NotCertificate}
@@ -16,13 +19,10 @@ use Rattle.reader.specs.Runs.{blocks}
 use Rattle.reader.specs.Events.{events}
 use Rattle.reader.specs.Counting.{tallyOf}
 use Rattle.reader.specs.Walking.{Handed}
-use Rattle.reader.specs.declared.finding.Loss.the-variants as Losses
 use Rattle.reader.specs.declared.stepping.Record.{Record}
 use Rattle.reader.specs.declared.stepping.Item.{Item}
+use Rattle.reader.specs.declared.finding.Loss.the-variants as Losses
 use Rattle.reader.specs.declared.stepping.Item.the-variants as Items
-use Rattle.listing.specs.Texts.{word, digitsBy, decimal}
-use Rattle.listing.specs.Lines.{findingLine, refusalText, recordLine, lostLine, totalLine, tooLongLine}
-use Rattle.listing.specs.Listing.{findingLines, recordLines, linesOf, listingOf, printed}
 
 abbrev told : ℕ → ℕ → Answer → Record
 told number profile answer = record { number = number; profile = profile; length = 7; answer = answer }

@@ -2,6 +2,7 @@
 use mathlib.Core.List.{List, _++_}
 use Prim.Native.Nat.{ℕ, _+_, _*_}
 use Prim.Native.String.{String}
+use Rattle.listing.specs.Texts.{word, decimal}
 use Rattle.octets.specs.Numbers.{pairAt}
 use Rattle.report.specs.Entries.{width}
 use Rattle.report.specs.declared.sink.Entry.{Entry}
@@ -13,7 +14,6 @@ use Rattle.reader.specs.declared.finding.Loss.{Loss}
 use Rattle.reader.specs.declared.finding.Loss.the-variants.{Short, Unsound, Stray}
 use Rattle.reader.specs.declared.stepping.Record.{Record}
 use Rattle.reader.specs.declared.counting.Counts.{Counts}
-use Rattle.listing.specs.Texts.{word, decimal}
 
 -- a word, and a number behind it
 abbrev pub fieldOf : String → ℕ → List ℕ

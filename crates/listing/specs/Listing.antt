@@ -4,6 +4,7 @@ use mathlib.Core.List.{List, [], _∷_, _++_}
 use Prim.Native.Nat.{ℕ}
 use lib.Dec.{leb}
 use lib.ListN.{length, replicate}
+use Rattle.listing.specs.Lines.{findingLine, recordLine, lostLine, totalLine, tooLongLine}
 use Rattle.report.specs.Entries.{decode}
 use Rattle.report.specs.declared.sink.Entry.{Entry}
 use Rattle.lint.specs.declared.linting.Answer.{Answer}
@@ -15,7 +16,6 @@ use Rattle.reader.specs.Walking.{Handed, allHandedOver}
 use Rattle.reader.specs.declared.stepping.Record.{Record}
 use Rattle.reader.specs.declared.stepping.Item.{Item}
 use Rattle.reader.specs.declared.stepping.Item.the-variants as Items
-use Rattle.listing.specs.Lines.{findingLine, recordLine, lostLine, totalLine, tooLongLine}
 
 unfoldable pub findingLines : List Entry → List ℕ
 findingLines [] = []

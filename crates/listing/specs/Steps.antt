@@ -2,10 +2,10 @@
 use mathlib.Core.List.{List, [], _++_}
 use mathlib.Core.Path.{_≡_}
 use Prim.Native.Nat.{ℕ, zero, suc, _+_}
-use Rattle.reader.specs.Stepping.{itemAt, roomAt, itemBlocks}
 use Rattle.listing.specs.Putting.{Put}
 use Rattle.listing.specs.Listing.{itemLines}
 use Rattle.listing.specs.declared.steps.Step.{Step}
+use Rattle.reader.specs.Stepping.{itemAt, roomAt, itemBlocks}
 
 -- the lines of what stands at a position, with the report in the room that the reader's step leaves
 abbrev pub linesAt : List ℕ → ℕ → List ℕ → List ℕ

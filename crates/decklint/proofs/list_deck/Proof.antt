@@ -16,6 +16,23 @@ Inv-loop deck out₀ room₀ position₀ n₀ out room position n = (length out 
 abbrev μ-loop : tie.MeasureT-loop
 μ-loop deck out₀ room₀ position₀ n₀ out room position n = length deck + 512 - 512 * position
 
+-- after a step
+module _ (c : tie.After-next-lines Inv-loop μ-loop) where
+  abbrev here : tie.At-loop Inv-loop μ-loop
+  here = c .before .before .before
+
+  within : 512 * (here .loop .position + c .next-lines .result .passed) ≤ length (here .before .before .before .before .args .deck .now) + 511
+  within = listed-within (c .next-lines .ensures) (here .loop .inv .2)
+
+  inside : c .next-lines .result .end ≤ length (c .next-lines .last .0)
+  inside = omega (arith, listed-inside (c .next-lines .ensures) (here .loop .inv .3), c .next-lines .kept .0)
+
+  out-kept : length (c .next-lines .last .0) ≡ length (here .before .before .before .before .args .out .now)
+  out-kept = c .next-lines .kept .0 ∙ here .loop .inv .0
+
+  room-kept : length (c .next-lines .last .1 .1 .1 .1 .0) ≡ 65536
+  room-kept = c .next-lines .kept .1 .1 .1 .1 .0 ∙ here .loop .inv .1
+
 large-buffer-requires : tie.Need-large-buffer-requires Inv-loop μ-loop
 large-buffer-requires c κs = search needs
 
@@ -29,68 +46,31 @@ next-lines-requires : tie.Need-next-lines-requires Inv-loop μ-loop
 next-lines-requires c κs = search needs
 
 add-position : tie.Need-add-position Inv-loop μ-loop
-add-position c =
-    let next = c .before .before .before .before .before .before in
-    let l = next .before .before .before in
-    let within = listed-within (next .next-lines .ensures) (l .loop .inv .2) in
-    let inside = listed-inside (next .next-lines .ensures) (l .loop .inv .3) in
-    let kept = next .next-lines .kept in omega (arith, within)
+add-position c = omega (arith, within (c .before .before .before .before .before .before))
 
 sub-if2 : tie.Need-sub-if2 Inv-loop μ-loop
-sub-if2 c =
-    let next = c .before .before .before .before .before .before in
-    let l = next .before .before .before in
-    let within = listed-within (next .next-lines .ensures) (l .loop .inv .2) in
-    let inside = listed-inside (next .next-lines .ensures) (l .loop .inv .3) in
-    let kept = next .next-lines .kept in omega (arith, inside, kept .0)
+sub-if2 c = inside (c .before .before .before .before .before .before)
 
 write-requires : tie.Need-write-requires Inv-loop μ-loop
-write-requires c κs =
-    let next = c .before .before .before .before .before .before .before .before in
-    let l = next .before .before .before in
-    let within = listed-within (next .next-lines .ensures) (l .loop .inv .2) in
-    let inside = listed-inside (next .next-lines .ensures) (l .loop .inv .3) in
-    let kept = next .next-lines .kept in omega (arith, inside, kept .0)
+write-requires c κs = inside (c .before .before .before .before .before .before .before .before)
 
 same-length : tie.Need-same-length Inv-loop μ-loop
-same-length c = let next = c .before .before .before .before .before .before .before .before .before .before in next .next-lines .kept .0 ∙ next .before .before .before .loop .inv .0
+same-length c = out-kept (c .before .before .before .before .before .before .before .before .before .before)
 
 returns : tie.Need-returns Inv-loop μ-loop
 returns c = tt
 
 loop-less : tie.Need-loop-less Inv-loop μ-loop
-loop-less c =
-    let next = c .before .before .before .before .before .before .before .before .before .before in
-    let l = next .before .before .before in
-    let within = listed-within (next .next-lines .ensures) (l .loop .inv .2) in
-    let inside = listed-inside (next .next-lines .ensures) (l .loop .inv .3) in
-    let kept = next .next-lines .kept in omega (arith, within)
+loop-less c = omega (arith, within (c .before .before .before .before .before .before .before .before .before .before))
 
 loop-again : tie.Need-loop-again Inv-loop μ-loop
-loop-again c =
-    let next = c .before .before .before .before .before .before .before .before .before .before in
-    let l = next .before .before .before in
-    let within = listed-within (next .next-lines .ensures) (l .loop .inv .2) in
-    let inside = listed-inside (next .next-lines .ensures) (l .loop .inv .3) in
-    let kept = next .next-lines .kept in
-    (kept .0 ∙ l .loop .inv .0, kept .1 .1 .1 .1 .0 ∙ l .loop .inv .1, within, omega arith)
+loop-again c = let next = c .before .before .before .before .before .before .before .before .before .before in (out-kept next, room-kept next, within next, omega arith)
 
 loop-less-2 : tie.Need-loop-less-2 Inv-loop μ-loop
-loop-less-2 c =
-    let next = c .before .before .before .before .before .before .before in
-    let l = next .before .before .before in
-    let within = listed-within (next .next-lines .ensures) (l .loop .inv .2) in
-    let inside = listed-inside (next .next-lines .ensures) (l .loop .inv .3) in
-    let kept = next .next-lines .kept in omega (arith, within)
+loop-less-2 c = omega (arith, within (c .before .before .before .before .before .before .before))
 
 loop-again-2 : tie.Need-loop-again-2 Inv-loop μ-loop
-loop-again-2 c =
-    let next = c .before .before .before .before .before .before .before in
-    let l = next .before .before .before in
-    let within = listed-within (next .next-lines .ensures) (l .loop .inv .2) in
-    let inside = listed-inside (next .next-lines .ensures) (l .loop .inv .3) in
-    let kept = next .next-lines .kept in
-    (kept .0 ∙ l .loop .inv .0, kept .1 .1 .1 .1 .0 ∙ l .loop .inv .1, within, omega (arith, inside, kept .0))
+loop-again-2 c = let next = c .before .before .before .before .before .before .before in (out-kept next, room-kept next, within next, inside next)
 
 tally-requires : tie.Need-tally-requires Inv-loop μ-loop
 tally-requires c κs = search needs
@@ -102,15 +82,10 @@ total-line-requires : tie.Need-total-line-requires Inv-loop μ-loop
 total-line-requires c κs = search needs
 
 write-requires-2 : tie.Need-write-requires-2 Inv-loop μ-loop
-write-requires-2 c κs =
-    let next = c .before .before .before .before .before .before .before .before .before .before .before .before in
-    let l = next .before .before .before in
-    let within = listed-within (next .next-lines .ensures) (l .loop .inv .2) in
-    let inside = listed-inside (next .next-lines .ensures) (l .loop .inv .3) in
-    let kept = next .next-lines .kept in omega (arith, put-inside (c .before .before .before .total-line .ensures) (omega (arith, inside, kept .0)), c .before .before .before .total-line .kept .0)
+write-requires-2 c κs = let total = c .before .before .before .total-line in omega (arith, put-inside (total .ensures) (inside (c .before .before .before .before .before .before .before .before .before .before .before .before)), total .kept .0)
 
 same-length-2 : tie.Need-same-length-2 Inv-loop μ-loop
-same-length-2 c = let next = c .before .before .before .before .before .before .before .before .before .before .before .before .before in c .before .before .before .before .total-line .kept .0 ∙ next .next-lines .kept .0 ∙ next .before .before .before .loop .inv .0
+same-length-2 c = c .before .before .before .before .total-line .kept .0 ∙ out-kept (c .before .before .before .before .before .before .before .before .before .before .before .before .before)
 
 returns-2 : tie.Need-returns-2 Inv-loop μ-loop
 returns-2 c = tt

@@ -1,5 +1,5 @@
 -- `decklint::read_all` meets its contract. The measure is the space that is left. The invariant: so many octets of the space are read. Assumes nothing.
-use mathlib.Core.Path.{_≡_, refl, _∙_}
+use mathlib.Core.Path.{_≡_, refl}
 use Prim.Native.Nat.{_-_, _≤_}
 use native.Mathlib.Omega.{arith}
 use lib.ListN.{length}

@@ -1,11 +1,12 @@
 -- Numbers in decimal.
---     one-digit, more-digits     a number below 10, and one above
---     tenth                      where there is a digit more, there is room for it
---     Begun, begin, digit-on, digit-last, still-long, digits-put     digits written from the last one on, to the end of a space of 20 octets
---     decimal-right              the digits say the number
---     no-zero-first              the first digit of a number above 0 is not 0
---     all-digits                 each octet is one of 48 to 57
---     decimal-long, wide-long    how many digits: at most k below 10 ^ k, so at most 20 below 2 ^ 64
+--     one-digit, more-digits      a number below 10, and one above
+--     tenth                       where there is a digit more, there is room for it
+--     Begun, begin, digit-on, digit-last, still-long, digits-put
+--                                 digits written from the last one on, to the end of a space of 20 octets
+--     saidFrom, decimal-right     the digits say the number
+--     decimal-long                how many digits: at most k below 10 ^ k
+--     digit-first                 the first digit of a number above 0 is not 0
+--     AllDigits, all-digits       each octet is one of 48 to 57
 -- Assumes nothing.
 use mathlib.Core.Path.{_≡_, refl, sym, ap, ap₂, subst, _∙_}
 use mathlib.Core.List.{List, [], _∷_, _++_, append-nil}
@@ -170,6 +171,18 @@ digit-first =
     longer [] h = absurd (omega arith)
     longer (b ∷ bs) h = omega arith
 
--- each octet is a digit of ASCII
-unfoldable pub Digits : List ℕ → Type 0
-Digits bs = (i : ℕ) → i < length bs → (48 ≤ getD bs i 0) × (getD bs i 0 ≤ 57)
+-- ---- each octet is a digit
+
+abbrev pub AllDigits : List ℕ → Type 0
+AllDigits [] = Unit {0}
+AllDigits (b ∷ bs) = (48 ≤ b) × (b ≤ 57) × AllDigits bs
+
+digits-snoc : (bs : List ℕ) (b : ℕ) → AllDigits bs → 48 ≤ b → b ≤ 57 → AllDigits (bs ++ (b ∷ []))
+digits-snoc [] b d l h = (l, h, tt)
+digits-snoc (c ∷ bs) b d l h = (d .0, d .1, digits-snoc bs b (d .2) l h)
+
+pub all-digits : (n : ℕ) → AllDigits (decimal n)
+all-digits =
+    by-tenths (λ (n : ℕ). AllDigits (decimal n))
+    (λ (n : ℕ) (h : n < 10). rw (one-digit n h) (omega arith, omega arith, tt))
+    (λ (n : ℕ) (h : 10 ≤ n) (d : AllDigits (decimal (n / 10))). rw (more-digits n h) (digits-snoc (decimal (n / 10)) (48 + n % 10) d (omega arith) (omega arith)))

@@ -1,21 +1,25 @@
 -- The entries of a report, by their place.
---     made, made-same          an entry by its three numbers
+--     made                     an entry by its three numbers
 --     entry-past, entry-by     an entry past the end of the report, and any other by its three pairs of octets
 --     decode-next              the first k + 1 entries are the first k, and entry k
+--     decode-take              the first n entries ask nothing of the octets behind them
 --     no-findings, one-finding, all-findings     their lines, put one behind the other
 --     reported-lines, refused-lines              all lines of a record, by its answer
 -- Assumes nothing.
 use mathlib.Core.Path.{_≡_, refl, sym, ap, ap₂, subst, _∙_}
 use mathlib.Core.List.{List, [], _∷_, _++_, append-assoc, append-nil}
 use Prim.Native.Nat.{ℕ, zero, suc, _+_, _*_, _/_, _≤_, _<_}
+use native.Mathlib.Nat.{zero-add, suc-add}
 use native.Mathlib.Numerals.{add-one}
 use native.Mathlib.Omega.{arith}
-use lib.ListN.{length, drop}
-use lib.Seq.{getD-drop}
+use lib.ListN.{length, take, drop}
+use lib.Seq.{take-nil, getD-take, getD-drop}
+use Rattle.listing.specs.Putting.{Put}
+use Rattle.listing.specs.Lines.{entryOf, findingLine, recordLine}
+use Rattle.listing.specs.Listing.{findingLines, entriesOf, recordLines}
 use Rattle.octets.specs.Octets.{octetAt}
 use Rattle.octets.specs.Numbers.{pairAt}
 use Rattle.octets.specs.Places.{noPlace}
-use Rattle.octets.specs.declared.places.Place.{Place}
 use Rattle.octets.proofs.Laws.Octets.{past}
 use Rattle.report.specs.Entries.{width, decode}
 use Rattle.report.specs.declared.sink.Entry.{Entry}
@@ -23,16 +27,13 @@ use Rattle.lint.specs.declared.refusals.Refusal.{Refusal}
 use Rattle.lint.specs.declared.linting.Answer.{Answer}
 use Rattle.lint.specs.declared.linting.Answer.the-variants.{Report, Refused}
 use Rattle.reader.specs.declared.stepping.Record.{Record}
-use Rattle.listing.specs.Putting.{Put}
-use Rattle.listing.specs.Lines.{entryOf, findingLine, recordLine}
-use Rattle.listing.specs.Listing.{findingLines, entriesOf, recordLines}
 use Rattle.listing.proofs.Laws.Putting.{put-nothing, _⨾_}
 
 -- an entry by its three numbers
 abbrev pub made : ℕ → ℕ → ℕ → Entry
 made rule start len = record { rule = rule; place = record { start = start; len = len } }
 
-pub made-same : {a b c x y z : ℕ} → a ≡ x → b ≡ y → c ≡ z → made a b c ≡ made x y z
+made-same : {a b c x y z : ℕ} → a ≡ x → b ≡ y → c ≡ z → made a b c ≡ made x y z
 made-same e f g = rw (e, f, g)
 
 pair-past : (s : List ℕ) (i : ℕ) → length s ≤ i → 0 ≡ pairAt s i
@@ -64,6 +65,25 @@ decode-next s zero = refl
 decode-next s (suc k) =
     ap (λ (es : List Entry). made (pairAt s 0) (pairAt s 2) (pairAt s 4) ∷ es)
     (decode-next (drop width s) k ∙ ap (λ (e : Entry). decode k (drop width s) ++ (e ∷ [])) (entry-on s k))
+
+-- the first n entries ask nothing of the octets behind them
+drop-take : (m n : ℕ) (l : List ℕ) → drop m (take (m + n) l) ≡ take n (drop m l)
+drop-take zero n l = ap (λ (k : ℕ). take k l) (zero-add n)
+drop-take (suc m) n [] = ap (λ (l : List ℕ). drop (suc m) l) (take-nil (suc m + n)) ∙ sym (take-nil n)
+drop-take (suc m) n (x ∷ l) = ap (λ (k : ℕ). drop (suc m) (take k (x ∷ l))) (suc-add m n) ∙ drop-take m n l
+
+pair-take : (n : ℕ) (s : List ℕ) (i : ℕ) → i + 1 < n → pairAt (take n s) i ≡ pairAt s i
+pair-take n s i h = ap₂ (λ (a b : ℕ). 256 * a + b) (getD-take n s i 0 (omega arith)) (getD-take n s (i + 1) 0 h)
+
+pub decode-take : (n : ℕ) (s : List ℕ) → decode n (take (width * n) s) ≡ decode n s
+unfolding decode
+decode-take zero s = refl
+decode-take (suc n) s =
+    let m : ℕ = width * suc n in
+    let e : m ≡ width + width * n = omega arith in
+    ap₂ (λ (x : Entry) (xs : List Entry). x ∷ xs)
+    (made-same (pair-take m s 0 (omega arith)) (pair-take m s 2 (omega arith)) (pair-take m s 4 (omega arith)))
+    (ap (λ (k : ℕ). decode n (drop width (take k s))) e ∙ ap (λ (l : List ℕ). decode n l) (drop-take width (width * n) s) ∙ decode-take n (drop width s))
 
 -- ---- their lines
 

@@ -5,15 +5,18 @@
 --     count-fits, item-whole    what the reader hands over in 65,536 octets of room counts no more findings than fit there, so that
 --                               327,741 octets hold its lines
 -- Assumes nothing.
-use mathlib.Core.Path.{_≡_, refl, ap, _∙_}
+use mathlib.Core.Path.{_≡_, refl}
 use mathlib.Core.Bool.{Bool, true, false, cond}
-use mathlib.Core.List.{List, [], _∷_, _++_}
+use mathlib.Core.List.{List, _++_}
 use Prim.Native.Nat.{ℕ, zero, suc, _+_, _*_, _^_, _≤_, _<_}
 use native.Mathlib.Omega.{arith}
 use lib.ListN.{length, drop, length-append}
 use lib.Seq.{getD-drop}
 use lib.Dec.{ltb}
 use borrow.Author.Tests.{leb-true}
+use Rattle.listing.specs.Texts.{word, decimal}
+use Rattle.listing.specs.Lines.{fieldOf, findingLine, refusalText, answerText, recordLine, lostLine, totalLine, tooLongLine}
+use Rattle.listing.specs.Listing.{findingLines, entriesOf, recordLines, itemLines}
 use Rattle.octets.specs.Octets.{octetAt}
 use Rattle.octets.specs.Numbers.{pairAt}
 use Rattle.report.specs.Entries.{width, decode}
@@ -24,7 +27,6 @@ use Rattle.lint.specs.Findings.{findings}
 use Rattle.lint.specs.Judging.{judgementOf}
 use Rattle.lint.specs.Answers.{answerTo, answerBy, answerOf}
 use Rattle.lint.specs.declared.judging.Judgement.{Judgement}
-use Rattle.lint.specs.declared.judging.Judgement.the-variants as Judgements
 use Rattle.lint.specs.declared.refusals.Side.{Side}
 use Rattle.lint.specs.declared.refusals.Side.the-variants.{Certificate, Issuer}
 use Rattle.lint.specs.declared.refusals.Refusal.{Refusal}
@@ -38,13 +40,11 @@ use Rattle.reader.specs.Events.{Event, record-at, lost-at}
 use Rattle.reader.specs.Stepping.{itemOf, eventAt, itemAt}
 use Rattle.reader.specs.declared.stepping.Record.{Record}
 use Rattle.reader.specs.declared.stepping.Item.{Item}
-use Rattle.reader.specs.declared.stepping.Item.the-variants as Items
 use Rattle.reader.specs.declared.counting.Counts.{Counts}
-use Rattle.listing.specs.Texts.{word, decimal}
-use Rattle.listing.specs.Lines.{fieldOf, findingLine, refusalText, answerText, recordLine, lostLine, totalLine, tooLongLine}
-use Rattle.listing.specs.Listing.{findingLines, entriesOf, recordLines, itemLines}
 use Rattle.listing.proofs.Laws.Decimal.{decimal-long}
 use Rattle.listing.proofs.Laws.Entries.{made}
+use Rattle.lint.specs.declared.judging.Judgement.the-variants as Judgements
+use Rattle.reader.specs.declared.stepping.Item.the-variants as Items
 
 pub wide-long : (n : ℕ) → n < 2 ^ 64 → length (decimal n) ≤ 20
 wide-long n h = decimal-long n 20 (omega arith) (omega arith)

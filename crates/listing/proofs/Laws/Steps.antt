@@ -5,32 +5,29 @@
 --     all-listed      the lines of the steps from the first block to the end of the deck, and the last line, are the listing
 -- Assumes nothing.
 use mathlib.Core.Path.{_≡_, refl, sym, ap, ap₂, subst, _∙_}
-use mathlib.Core.Bool.{true, false}
 use mathlib.Core.Logic.{⊎-elim}
 use mathlib.Core.List.{List, [], _++_}
 use Prim.Native.Nat.{ℕ, zero, suc, _+_, _*_, _≤_, _<_}
-use native.Mathlib.Nat.{add-zero}
 use native.Mathlib.Omega.{arith}
 use lib.ListN.{length}
-use borrow.Author.Tests.{lt-ltb, le-ltb}
-use Rattle.blocks.proofs.Laws.Logic.{below-or-not}
-use Rattle.reader.specs.Runs.{blocks}
-use Rattle.reader.specs.Events.{Event, record-at, lost-at, events}
-use Rattle.reader.specs.Finding.{foundAt, blocksIn}
-use Rattle.reader.specs.Stepping.{Stepped, itemOf, roomAfter, eventAt, itemAt, roomAt, itemBlocks}
-use Rattle.reader.specs.Counting.{tallyOf}
-use Rattle.reader.specs.Walking.{Handed, reportIn, handedAt, unlessEnd, walk}
-use Rattle.reader.specs.declared.stepping.Item.{Item}
-use Rattle.reader.specs.declared.stepping.Item.the-variants as Items
-use Rattle.reader.proofs.Laws.Walking.{walked}
-use Rattle.reader.proofs.Laws.Passing.{item-blocks, item-within, item-moves}
+use borrow.Author.Tests.{le-ltb}
 use Rattle.listing.specs.Putting.{Put}
 use Rattle.listing.specs.Lines.{totalLine}
 use Rattle.listing.specs.Listing.{itemLines, linesOf, listingOf}
-use Rattle.listing.specs.Steps.{linesAt, passedAt, Listed, steppedLines}
+use Rattle.listing.specs.Steps.{passedAt, Listed, steppedLines}
 use Rattle.listing.specs.declared.steps.Step.{Step}
+use Rattle.blocks.proofs.Laws.Logic.{below-or-not}
+use Rattle.reader.specs.Runs.{blocks}
+use Rattle.reader.specs.Finding.{foundAt, blocksIn}
+use Rattle.reader.specs.Stepping.{Stepped, itemAt, roomAt, itemBlocks}
+use Rattle.reader.specs.Counting.{tallyOf}
+use Rattle.reader.specs.Walking.{Handed, handedAt, unlessEnd, walk}
+use Rattle.reader.specs.declared.stepping.Item.{Item}
+use Rattle.reader.proofs.Laws.Walking.{walked}
+use Rattle.reader.proofs.Laws.Passing.{item-blocks, item-within, item-moves}
 use Rattle.listing.proofs.Laws.Putting.{put-inside, one-answer}
 use Rattle.listing.proofs.Laws.Listing.{room-lines}
+use Rattle.reader.specs.declared.stepping.Item.the-variants as Items
 
 module _ {deck room out : List ℕ} {position n : ℕ} where
   pub step-listed : {item : Item} {end passed : ℕ} {left last : List ℕ} → Stepped deck position room item left → Put (itemLines position item left) n out end last → passed ≡ itemBlocks item → Listed deck position n room out (record { end = end; passed = passed }) left last

@@ -3,22 +3,22 @@
 --     item-within     not past the deck's end
 --     item-moves      one block at least, where the deck goes on
 -- Assumes nothing.
-use mathlib.Core.Path.{_≡_, refl, sym, ap, _∙_}
-use mathlib.Core.Bool.{Bool, true, false, cond}
+use mathlib.Core.Path.{_≡_, refl, ap}
+use mathlib.Core.Bool.{Bool, true, false}
 use mathlib.Core.Logic.{⊎-elim}
 use mathlib.Core.List.{List}
 use Prim.Native.Nat.{ℕ, _+_, _*_, _≤_, _<_}
 use native.Mathlib.Omega.{arith}
-use lib.ListN.{length, take}
+use lib.ListN.{length}
 use lib.Seq.{length-take-le}
 use borrow.Author.Tests.{lt-ltb, le-ltb}
-use Rattle.blocks.specs.Block.{lengthOf}
-use Rattle.blocks.specs.Record.{parts}
-use Rattle.blocks.proofs.Laws.Logic.{true-or-false, below-or-not}
 use Rattle.reader.specs.Runs.{from, first, starts, dataFrom, recordFrom}
 use Rattle.reader.specs.Events.{eventIf}
 use Rattle.reader.specs.Finding.{foundIf, foundAt, blocksIn}
 use Rattle.reader.specs.Stepping.{itemOf, itemBlocks, itemAt}
+use Rattle.blocks.specs.Block.{lengthOf}
+use Rattle.blocks.specs.Record.{parts}
+use Rattle.blocks.proofs.Laws.Logic.{below-or-not}
 use Rattle.reader.proofs.Laws.Steps.{some-parts}
 use Rattle.reader.proofs.Laws.Places.{data-length}
 use Rattle.reader.proofs.Laws.Starts.{run-within}

@@ -4,9 +4,9 @@ use Prim.Native.Nat.{_-_, _≤_}
 use native.Mathlib.Omega.{arith}
 use lib.ListN.{length}
 use borrow.Author.Needs.{needs}
-use Rattle.report.specs.Entries.{decode}
 use Rattle.listing.specs.Putting.{Put}
 use Rattle.listing.specs.Listing.{findingLines}
+use Rattle.report.specs.Entries.{decode}
 use Rattle.listing.proofs.Laws.Entries.{no-findings, one-finding, all-findings}
 use Rattle.listing.proofs.lines.finding_lines.Statement.{statement}
 use Rattle.listing.proofs.lines.finding_lines.Tie as tie
