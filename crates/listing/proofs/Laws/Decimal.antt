@@ -4,8 +4,8 @@
 --     Begun, begin, digit-on, digit-last, still-long, digits-put
 --                                 digits written from the last one on, to the end of a space of 20 octets
 --     saidFrom, decimal-right     the digits say the number
---     decimal-long                how many digits: at most k below 10 ^ k
---     digit-first                 the first digit of a number above 0 is not 0
+--     decimal-long, wide-long     how many digits: at most k below 10 ^ k, so at most 20 below 2 ^ 64
+--     no-zero-first               the first digit of a number above 0 is not 0
 --     AllDigits, all-digits       each octet is one of 48 to 57
 -- Assumes nothing.
 use mathlib.Core.Path.{_≡_, refl, sym, ap, ap₂, subst, _∙_}
@@ -159,8 +159,11 @@ decimal-long n (suc k) h l = go (decimal-long (n / 10) k) (ltb n 10) refl
         let less : n / 10 < 10 ^ k = rw e at (shorter .1) in
         rw (more-digits n b, length-append) (omega (arith, before less (omega (arith, shorter .0))))
 
-pub digit-first : (n : ℕ) → 0 < n → 48 < getD (decimal n) 0 0
-digit-first =
+pub wide-long : (n : ℕ) → n < 2 ^ 64 → length (decimal n) ≤ 20
+wide-long n h = decimal-long n 20 (omega arith) (omega arith)
+
+pub no-zero-first : (n : ℕ) → 0 < n → 48 < getD (decimal n) 0 0
+no-zero-first =
     by-tenths (λ (n : ℕ). 0 < n → 48 < getD (decimal n) 0 0)
     (λ (n : ℕ) (h : n < 10) (l : 0 < n). rw (one-digit n h) (omega arith))
     (λ (n : ℕ) (h : 10 ≤ n) (e : 0 < n / 10 → 48 < getD (decimal (n / 10)) 0 0) (l : 0 < n).

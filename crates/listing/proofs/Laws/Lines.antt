@@ -1,8 +1,7 @@
 -- How long the lines are.
---     wide-long                 a number below 2 ^ 64 has at most 20 digits
 --     finding-long, record-long, lost-long, total-long, too-long-long     each line, of numbers that the code can hold
 --     findings-long, item-long  all lines of k findings, and of an item that counts k
---     count-fits, item-whole    what the reader hands over in 65,536 octets of room counts no more findings than fit there, so that
+--     item-fits, item-whole     what the reader hands over in 65,536 octets of room counts no more findings than fit there, so that
 --                               327,741 octets hold its lines
 -- Assumes nothing.
 use mathlib.Core.Path.{_≡_, refl}
@@ -13,20 +12,17 @@ use native.Mathlib.Omega.{arith}
 use lib.ListN.{length, drop, length-append}
 use lib.Seq.{getD-drop}
 use lib.Dec.{ltb}
-use borrow.Author.Tests.{leb-true}
 use Rattle.listing.specs.Texts.{word, decimal}
 use Rattle.listing.specs.Lines.{fieldOf, findingLine, refusalText, answerText, recordLine, lostLine, totalLine, tooLongLine}
 use Rattle.listing.specs.Listing.{findingLines, entriesOf, recordLines, itemLines}
 use Rattle.octets.specs.Octets.{octetAt}
 use Rattle.octets.specs.Numbers.{pairAt}
 use Rattle.report.specs.Entries.{width, decode}
-use Rattle.report.specs.Answers.{fits}
 use Rattle.report.specs.declared.sink.Entry.{Entry}
 use Rattle.lint.specs.Refusals.{numberOf, sideNumber, sideOf, placeOf}
 use Rattle.lint.specs.Findings.{findings}
-use Rattle.lint.specs.Judging.{judgementOf}
-use Rattle.lint.specs.Answers.{answerTo, answerBy, answerOf}
-use Rattle.lint.specs.declared.judging.Judgement.{Judgement}
+use Rattle.lint.specs.Answers.{answerOf}
+use Rattle.lint.proofs.Laws.Bounds.{count-fits}
 use Rattle.lint.specs.declared.refusals.Side.{Side}
 use Rattle.lint.specs.declared.refusals.Side.the-variants.{Certificate, Issuer}
 use Rattle.lint.specs.declared.refusals.Refusal.{Refusal}
@@ -43,11 +39,7 @@ use Rattle.reader.specs.declared.stepping.Item.{Item}
 use Rattle.reader.specs.declared.counting.Counts.{Counts}
 use Rattle.listing.proofs.Laws.Decimal.{decimal-long}
 use Rattle.listing.proofs.Laws.Entries.{made}
-use Rattle.lint.specs.declared.judging.Judgement.the-variants as Judgements
 use Rattle.reader.specs.declared.stepping.Item.the-variants as Items
-
-pub wide-long : (n : ℕ) → n < 2 ^ 64 → length (decimal n) ≤ 20
-wide-long n h = decimal-long n 20 (omega arith) (omega arith)
 
 -- a field in front of a text
 field-long : (w : List ℕ) (n k : ℕ) (rest : List ℕ) → n < 10 ^ k → 0 < k → length ((w ++ decimal n) ++ rest) ≤ length w + k + length rest
@@ -177,30 +169,24 @@ item-long position Items.End s h k o = omega arith
 
 -- ---- what fits in the room
 
-answer-fits : (es : List Entry) (room : List ℕ) → width * countOf (answerTo es room) ≤ length room
-unfolding answerTo
-answer-fits es room = go (fits es room) refl
+answer-fits : (certificate issuer : List ℕ) (profile : ℕ) (room : List ℕ) → width * countOf (answerOf certificate issuer profile room) ≤ length room
+answer-fits certificate issuer profile room = go (answerOf certificate issuer profile room) refl
   where
-    go : (t : Bool) → fits es room ≡ t → width * countOf (cond t (Report (length es)) (Refused NoRoom)) ≤ length room
-    go true e = leb-true _ _ e
-    go false e = omega arith
-
-judged-fits : (j : Judgement) (certificate issuer room : List ℕ) → width * countOf (answerBy j certificate issuer room) ≤ length room
-judged-fits (Judgements.Refused r) certificate issuer room = omega arith
-judged-fits (Judgements.Accepted p) certificate issuer room = answer-fits (findings p certificate issuer) room
+    go : (a : Answer) → answerOf certificate issuer profile room ≡ a → width * countOf a ≤ length room
+    go (Report count) e = count-fits certificate issuer profile room count e
+    go (Refused r) e = omega arith
 
 event-fits : (room : List ℕ) (e : Event) → width * countIn (itemOf room e) ≤ length room
-unfolding answerOf
-event-fits room (record-at position number p) = judged-fits (judgementOf (certificateIn p) (issuerIn p) (profileIn p)) (certificateIn p) (issuerIn p) room
+event-fits room (record-at position number p) = answer-fits (certificateIn p) (issuerIn p) (profileIn p) room
 event-fits room (lost-at position loss) = omega arith
 
-pub count-fits : (deck : List ℕ) (position : ℕ) (room : List ℕ) → width * countIn (itemAt deck position room) ≤ length room
+pub item-fits : (deck : List ℕ) (position : ℕ) (room : List ℕ) → width * countIn (itemAt deck position room) ≤ length room
 unfolding itemAt
-count-fits deck position room = go (ltb (512 * position) (length deck))
+item-fits deck position room = go (ltb (512 * position) (length deck))
   where
     go : (t : Bool) → width * countIn (cond t (itemOf room (eventAt deck position)) Items.End) ≤ length room
     go true = event-fits room (eventAt deck position)
     go false = omega arith
 
 pub item-whole : (deck : List ℕ) (position : ℕ) (room s : List ℕ) → length room ≤ 65536 → position < 2 ^ 64 → Held (itemAt deck position room) → Octets s → length (itemLines position (itemAt deck position room) s) ≤ 327741
-item-whole deck position room s h l k o = omega (arith, item-long position (itemAt deck position room) s l k o, count-fits deck position room)
+item-whole deck position room s h l k o = omega (arith, item-long position (itemAt deck position room) s l k o, item-fits deck position room)
