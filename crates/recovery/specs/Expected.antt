@@ -8,9 +8,9 @@ use lib.ListN.{length, take, drop}
 use Rattle.blocks.specs.Record.{parts}
 use Rattle.lint.specs.Answers.{answerOf, roomOf, reportOf}
 use Rattle.reader.specs.Events.{lossOf}
+use Rattle.reader.specs.Stepping.{itemBlocks}
 use Rattle.reader.specs.Walking.{Handed}
 use Rattle.reader.specs.declared.stepping.Record.{Record}
-use Rattle.reader.specs.declared.stepping.Item.{Item}
 use Rattle.reader.specs.declared.stepping.Item.the-variants as Items
 use Rattle.recovery.specs.Submitted.{Submitted, octetsOf}
 use Rattle.recovery.specs.Spoiling.{allSound}
@@ -61,13 +61,7 @@ allHandedOut room position number [] = []
 allHandedOut room position number (s ∷ ss) =
     recovered room position number s ∷ allHandedOut room (position + extent s) (suc number) ss
 
--- how many blocks an item takes
-abbrev pub blocksTaken : Item → ℕ
-blocksTaken (Items.Record r) = parts (r .length)
-blocksTaken (Items.Lost loss) = 1
-blocksTaken Items.End = 0
-
 -- the items stand one behind the other, the first at `start`, and the last ends before `end`: each block between belongs to one item
 abbrev pub OneBehindTheOther : ℕ → List Handed → ℕ → Type 0
 OneBehindTheOther start [] end = start ≡ end
-OneBehindTheOther start (h ∷ hs) end = (h .position ≡ start) × OneBehindTheOther (start + blocksTaken (h .item)) hs end
+OneBehindTheOther start (h ∷ hs) end = (h .position ≡ start) × OneBehindTheOther (start + itemBlocks (h .item)) hs end

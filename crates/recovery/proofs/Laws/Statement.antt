@@ -15,13 +15,14 @@ use Rattle.writer.specs.Cutting.{blocksOf, joined}
 use Rattle.writer.proofs.Laws.Cutting.{blocks-count}
 use Rattle.reader.specs.Runs.{blocks}
 use Rattle.reader.specs.Events.{Event, lossOf}
+use Rattle.reader.specs.Stepping.{itemBlocks}
 use Rattle.reader.specs.Walking.{Handed, handedAt, handedOver, allHandedOver}
 use Rattle.reader.specs.declared.stepping.Record.{Record}
 use Rattle.reader.specs.declared.stepping.Item.the-variants as Items
 use Rattle.reader.proofs.Laws.Walking.{walked}
 use Rattle.recovery.specs.Submitted.{Submitted, octetsOf, Writable, AllWritable, written}
 use Rattle.recovery.specs.Spoiling.{Spoiled, allSound}
-use Rattle.recovery.specs.Expected.{allLost, fate, extent, expected, allHandedOut, blocksTaken, OneBehindTheOther}
+use Rattle.recovery.specs.Expected.{allLost, fate, extent, expected, allHandedOut, OneBehindTheOther}
 use Rattle.recovery.specs.Statements.{Recovers, NoneSpoiled, EachOnce}
 use Rattle.recovery.proofs.Laws.Taken.{AllProper, all-proper, linted, linted-room}
 use Rattle.recovery.proofs.Laws.Recovery.{lostEvents, fateEvents, expectedEvents, spoilt-length, blocks-sound}
@@ -76,7 +77,7 @@ none-fails room (s ∷ ss) position number h₀ small ok =
 behind-append : (xs ys : List Handed) (start middle end : ℕ) → OneBehindTheOther start xs middle → OneBehindTheOther middle ys end
     → OneBehindTheOther start (xs ++ ys) end
 behind-append [] ys start middle end h k = subst (λ (m : ℕ). OneBehindTheOther m ys end) (sym h) k
-behind-append (x ∷ xs) ys start middle end h k = (h .0, behind-append xs ys (start + blocksTaken (x .item)) middle end (h .1) k)
+behind-append (x ∷ xs) ys start middle end h k = (h .0, behind-append xs ys (start + itemBlocks (x .item)) middle end (h .1) k)
 
 behind-lost : (position : ℕ) (bs : List (List ℕ)) → OneBehindTheOther position (allLost position bs) (position + length bs)
 behind-lost position [] = omega arith
