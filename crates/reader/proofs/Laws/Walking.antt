@@ -5,26 +5,24 @@
 use mathlib.Core.Path.{_≡_, refl, sym, ap, ap₂, _∙_}
 use mathlib.Core.Bool.{Bool, true, false}
 use mathlib.Core.Logic.{⊎-elim}
-use mathlib.Core.List.{List, [], _∷_}
+use mathlib.Core.List.{List, _∷_}
 use Prim.Native.Nat.{ℕ, zero, suc, _+_, _*_, _≤_, _<_}
 use native.Mathlib.Omega.{arith}
-use lib.ListN.{length, drop, drop-of-length-le}
-use lib.Seq.{drop-drop}
+use lib.ListN.{length, drop-of-length-le}
 use borrow.Author.Tests.{lt-ltb, le-ltb}
-use Rattle.blocks.specs.Block.{lengthOf}
-use Rattle.blocks.specs.Record.{parts, profileIn, certificateIn, issuerIn}
+use Rattle.reader.specs.Runs.{blocks, from, starts}
+use Rattle.reader.specs.Events.{Event, record-at, lost-at, eventIf, reading, events}
+use Rattle.reader.specs.Finding.{foundAt, blocksIn}
+use Rattle.reader.specs.Stepping.{lintedRoom, itemOf, roomAfter, eventAt, itemAt, roomAt}
+use Rattle.reader.specs.Walking.{Handed, handedAt, unlessEnd, walk, positionOf, handedOver, allHandedOver}
+use Rattle.blocks.specs.Record.{profileIn, certificateIn, issuerIn}
 use Rattle.blocks.proofs.Laws.Logic.{below-or-not}
 use Rattle.lint.proofs.Laws.Rooms.{answer-room, room-long, report-room}
 use Rattle.lint.specs.declared.linting.Answer.{Answer}
-use Rattle.reader.specs.Runs.{blocks, from, blockAt, first, starts}
-use Rattle.reader.specs.Events.{Event, record-at, lost-at, lossOf, eventIf, reading, events}
-use Rattle.reader.specs.Finding.{foundIf, foundAt, blocksIn}
-use Rattle.reader.specs.Stepping.{lintedRecord, lintedRoom, itemOf, roomAfter, eventAt, itemAt, roomAt}
-use Rattle.reader.specs.Walking.{Handed, handedAt, unlessEnd, walk, positionOf, handedOver, allHandedOver}
-use Rattle.reader.specs.declared.stepping.Item.{Item}
+use Rattle.reader.proofs.Laws.Places.{from-nil}
+use Rattle.reader.proofs.Laws.Counts.{reads-on}
+use Rattle.reader.proofs.Laws.Passing.{item-blocks, item-moves}
 use Rattle.reader.specs.declared.stepping.Item.the-variants as Items
-use Rattle.reader.proofs.Laws.Steps.{some-parts, past-record, past-lost}
-use Rattle.reader.proofs.Laws.Places.{from-cons, from-nil}
 
 -- ---- an event is handed out
 
@@ -65,28 +63,6 @@ module _ (d : List ℕ) (i : ℕ) where
     unfolding roomAt
     room-is room = rw (lt-ltb _ _ h)
 
-    found-is : foundAt d i ≡ foundIf (starts (from d i)) (from d i)
-    unfolding foundAt
-    found-is = rw (lt-ltb _ _ h)
-
-    -- how far it goes
-    abbrev passed : Bool → ℕ
-    passed t = blocksIn (foundIf t (from d i))
-
-    passes : (t : Bool) → starts (from d i) ≡ t → 0 < passed t
-    passes true e = some-parts (from d i) e
-    passes false e = omega arith
-
-    goes : (t : Bool) → starts (from d i) ≡ t → reading 0 i (from d i) ≡ eventIf t i (from d i) ∷ reading 0 (i + passed t) (from d (i + passed t))
-    goes true e =
-        past-record i (from d i) e
-        ∙ ap (λ (bs : List (List ℕ)). eventIf true i (from d i) ∷ reading 0 (i + passed true) bs) (drop-drop (passed true) i (blocks d))
-    goes false e =
-        let m : suc i ≡ i + 1 = omega arith in
-        ap (λ (bs : List (List ℕ)). reading 0 i bs) (from-cons d i h)
-        ∙ past-lost i (blockAt d i) (from d (suc i)) (ap starts (sym (from-cons d i h)) ∙ e)
-        ∙ ap₂ (λ (bs : List (List ℕ)) (k : ℕ). lost-at i (lossOf (first bs)) ∷ reading 0 k (from d k)) (sym (from-cons d i h)) m
-
 -- ---- the walk
 
 abbrev Later : ℕ → List ℕ → List ℕ → Type 0
@@ -99,14 +75,14 @@ module _ (n : ℕ) (d other : List ℕ) (i : ℕ) (room : List ℕ) where
   inside : Later n d other → length room ≡ length other → length (blocks d) ≤ i + suc n → 512 * i < length d → walk (suc n) d i room ≡ allHandedOver other (reading 0 i (from d i))
   inside later h l k =
       let e : Event = eventAt d i in
-      let m : ℕ = passed d i k (starts (from d i)) in
-      let some : 0 < m = passes d i k (starts (from d i)) refl in
-      rw (item-is d i k room, room-is d i k room, found-is d i k)
+      let m : ℕ = blocksIn (foundAt d i) in
+      let some : 0 < m = rw (item-blocks d i room) at (item-moves d i room k) in
+      rw (item-is d i k room, room-is d i k room)
       (no-end room e (handedAt i (itemOf room e) (roomAfter room e)) (walk n d (i + m) (roomAfter room e))
       ∙ ap₂ (λ (x : Handed) (xs : List Handed). x ∷ xs)
       (ap (λ (p : ℕ). handedAt p (itemOf room e) (roomAfter room e)) (sym (event-stands (starts (from d i)) i (from d i))) ∙ same-handed room other h e)
       (later (i + m) (roomAfter room e) (after-long room e ∙ h) (omega arith))
-      ∙ ap (λ (es : List Event). allHandedOver other es) (sym (goes d i k (starts (from d i)) refl)))
+      ∙ ap (λ (es : List Event). allHandedOver other es) (sym (reads-on d i k)))
 
 walked-from : (n : ℕ) (d other : List ℕ) → Later n d other
 walked-from zero d other i room h l =
