@@ -3,8 +3,7 @@ use mathlib.Core.Bool.{Bool, true, false, not, _&&_, _||_}
 use mathlib.Core.List.{List, [], _∷_}
 use Prim.Native.Nat.{ℕ}
 use lib.Dec.{eqb}
-use Rattle.octets.specs.Same.{sameBy, exactly}
-use Rattle.der.specs.Contents.{contentsOf}
+use Rattle.der.specs.Comparing.{contentsAre}
 use Rattle.der.specs.declared.header.Head.{Head}
 use Rattle.profiles.specs.Fields.{allowsAttribute}
 use Rattle.profiles.specs.declared.fields.Profile.{Profile}
@@ -13,7 +12,7 @@ use Rattle.attributes.specs.Types.{arcOf, valueOf}
 -- the value is a PrintableString (tag 19), or where that is allowed a UTF8String (tag 12), with this text
 abbrev pub saysText : List ℕ → Head → Bool → List ℕ → Bool
 saysText s h utf8 text =
-    (eqb (valueOf s h .tag) 19 || utf8 && eqb (valueOf s h .tag) 12) && sameBy exactly (contentsOf s (valueOf s h)) text
+    (eqb (valueOf s h .tag) 19 || utf8 && eqb (valueOf s h .tag) 12) && contentsAre s (valueOf s h) text
 
 -- an attribute with this arc that says another text
 unfoldable pub isOther : List ℕ → Head → ℕ → Bool → List ℕ → Bool

@@ -3,7 +3,7 @@ use mathlib.Core.Bool.{cond, _&&_}
 use mathlib.Core.List.{List, [], _∷_}
 use Prim.Native.Nat.{ℕ}
 use lib.Dec.{eqb}
-use Rattle.der.specs.Header.{headOf}
+use Rattle.der.specs.Members.{firstIn, secondIn}
 use Rattle.der.specs.Contents.{contentsOf}
 use Rattle.der.specs.declared.header.Head.{Head}
 
@@ -17,11 +17,11 @@ typeArc (a ∷ b ∷ n ∷ c ∷ cs) = 0
 
 -- the type is the first member
 abbrev pub typeOf : List ℕ → Head → Head
-typeOf s h = headOf s (h .body) (h .end)
+typeOf s h = firstIn s h
 
 unfoldable pub arcOf : List ℕ → Head → ℕ
 arcOf s h = typeArc (contentsOf s (typeOf s h))
 
 -- the value is the second
 unfoldable pub valueOf : List ℕ → Head → Head
-valueOf s h = headOf s (typeOf s h .end) (h .end)
+valueOf s h = secondIn s h

@@ -13,9 +13,8 @@ fn says_text(s: &[u8], h: Head, utf8: bool, text: &[u8]) -> bool
 {
     let value = value_of(s, h);
     let tag = value.tag;
-    let body = value.body;
     if (tag == 19) | (utf8 & (tag == 12)) {
-        return octets::equals(s, body, octets::minus(value.end, body), text);
+        return der::contents_are(s, value, text);
     }
     false
 }

@@ -20,7 +20,7 @@ fn type_arc(s: &[u8], body: usize, n: usize) -> u8
 pub fn arc_of(s: &[u8], h: Head) -> u8
     ensures { λ r. ⌜ r ≡ arcOf (now (s .entry)) h ⌝ }
 {
-    let kind = der::head_at(s, h.body, h.end);
+    let kind = der::first_in(s, h);
     type_arc(s, kind.body, octets::minus(kind.end, kind.body))
 }
 
@@ -28,6 +28,5 @@ pub fn arc_of(s: &[u8], h: Head) -> u8
 pub fn value_of(s: &[u8], h: Head) -> Head
     ensures { λ r. ⌜ r ≡ valueOf (now (s .entry)) h ⌝ }
 {
-    let kind = der::head_at(s, h.body, h.end);
-    der::head_at(s, kind.end, h.end)
+    der::second_in(s, h)
 }

@@ -3,11 +3,12 @@ use mathlib.Core.List.{List, [], _∷_}
 use mathlib.Core.Bool.{Bool, cond}
 use Prim.Native.Nat.{ℕ, _+_}
 use lib.Dec.{eqb}
-use Rattle.certificate.specs.Members.{firstIn, after, past}
+use Rattle.der.specs.Members.{firstIn, secondIn, past}
 use Rattle.certificate.specs.declared.extensions.Extension.{Extension}
 use Rattle.octets.specs.Same.{sameBy, exactly}
 use Rattle.der.specs.Header.{childrenOf}
 use Rattle.der.specs.Contents.{contentsOf}
+use Rattle.der.specs.Comparing.{contentsAre, sameContents}
 use Rattle.der.specs.declared.header.Head.{Head}
 use Rattle.der.specs.Elements.{anyOf}
 
@@ -17,10 +18,7 @@ use Rattle.der.specs.Elements.{anyOf}
 abbrev pub identifierOf : List ℕ → Head → List ℕ
 identifierOf s h = contentsOf s (firstIn s h)
 
--- the member after the identifier: a BOOLEAN, which "if written, is TRUE", or the value
-abbrev pub secondIn : List ℕ → Head → Head
-secondIn s h = after s (firstIn s h) (h .end)
-
+-- the member after the identifier is a BOOLEAN, which "if written, is TRUE", or the value
 unfoldable pub extensionOf : List ℕ → Head → Extension
 extensionOf s h =
     record {
@@ -84,12 +82,12 @@ slotBy n =
 
 -- "private key usage period 2.5.29.16"
 abbrev pub isPeriod : List ℕ → Head → Bool
-isPeriod s h = sameBy exactly (identifierOf s h) (certificateExtension 16)
+isPeriod s h = contentsAre s (firstIn s h) (certificateExtension 16)
 
 -- ---- 361 "each later extension with an identifier seen before"
 
 abbrev pub sameIdentifier : List ℕ → Head → Head → Bool
-sameIdentifier s a b = sameBy exactly (identifierOf s a) (identifierOf s b)
+sameIdentifier s a b = sameContents s (firstIn s a) s (firstIn s b)
 
 -- some extension of a list that starts at from, before the extension h, has its identifier
 unfoldable pub seenBefore : List ℕ → ℕ → Head → Bool

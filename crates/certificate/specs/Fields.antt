@@ -13,7 +13,7 @@ use Rattle.times.specs.declared.validity.Time.the-variants.{Utc}
 use Rattle.times.specs.declared.validity.Validity.{Validity}
 use Rattle.times.specs.declared.reading.Reading.{Reading}
 use Rattle.times.specs.declared.reading.Reading.the-variants.{Is, Bad}
-use Rattle.certificate.specs.Members.{missing, firstIn, after, past, insideTag}
+use Rattle.der.specs.Members.{missing, firstIn, after, past, insideTag}
 use Rattle.certificate.specs.declared.fields.Certificate.{Certificate}
 
 -- ---- Certificate: tbsCertificate, signatureAlgorithm, signatureValue

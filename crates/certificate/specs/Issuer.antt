@@ -1,7 +1,7 @@
 -- "The issuer counts only by its subject name and its key identifier" (document 01, "The report").
 use mathlib.Core.List.{List}
 use Prim.Native.Nat.{ℕ}
-use Rattle.certificate.specs.Members.{firstIn}
+use Rattle.der.specs.Members.{firstIn}
 use Rattle.certificate.specs.Fields.{certificateOf}
 use Rattle.certificate.specs.Slots.{startIn, goodStart, holderAt}
 use Rattle.certificate.specs.declared.issuer.Issuer.{Issuer}

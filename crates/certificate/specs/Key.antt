@@ -2,10 +2,9 @@
 use mathlib.Core.List.{List, [], _∷_}
 use mathlib.Core.Bool.{cond}
 use Prim.Native.Nat.{ℕ}
-use Rattle.octets.specs.Same.{sameBy, exactly}
-use Rattle.der.specs.Contents.{contentsOf}
+use Rattle.der.specs.Comparing.{contentsAre}
 use Rattle.der.specs.declared.header.Head.{Head}
-use Rattle.certificate.specs.Members.{firstIn, after}
+use Rattle.der.specs.Members.{firstIn, after}
 use Rattle.certificate.specs.declared.key.KeyKind.{KeyKind}
 use Rattle.certificate.specs.declared.key.KeyKind.the-variants.{Rsa, EllipticCurve, Other}
 use Rattle.certificate.specs.declared.key.Key.{Key}
@@ -18,11 +17,11 @@ rsaEncryption = 0x2A ∷ 0x86 ∷ 0x48 ∷ 0x86 ∷ 0xF7 ∷ 0x0D ∷ 0x01 ∷ 0
 abbrev pub ecPublicKey : List ℕ
 ecPublicKey = 0x2A ∷ 0x86 ∷ 0x48 ∷ 0xCE ∷ 0x3D ∷ 0x02 ∷ 0x01 ∷ []
 
--- "RSA key" and "EC key" go by the algorithm's OBJECT IDENTIFIER alone, here by its contents
-unfoldable pub kindOf : List ℕ → KeyKind
-kindOf identifier =
-    cond (sameBy exactly identifier rsaEncryption) Rsa
-    (cond (sameBy exactly identifier ecPublicKey) EllipticCurve Other)
+-- "RSA key" and "EC key" go by the algorithm's OBJECT IDENTIFIER alone
+unfoldable pub kindOf : List ℕ → Head → KeyKind
+kindOf s identifier =
+    cond (contentsAre s identifier rsaEncryption) Rsa
+    (cond (contentsAre s identifier ecPublicKey) EllipticCurve Other)
 
 -- A SubjectPublicKeyInfo holds an AlgorithmIdentifier and a BIT STRING; the AlgorithmIdentifier an OBJECT IDENTIFIER and, if there are any,
 -- parameters.
@@ -32,5 +31,5 @@ keyOf s key =
       algorithm = firstIn s key;
       parameters = after s (firstIn s (firstIn s key)) (firstIn s key .end);
       bits = after s (firstIn s key) (key .end);
-      kind = kindOf (contentsOf s (firstIn s (firstIn s key)));
+      kind = kindOf s (firstIn s (firstIn s key));
     }

@@ -1,5 +1,4 @@
 -- What an accepted certificate says: its fields, its key, its extensions, and what counts of an issuer. `Inside` and `Named` are statements on them.
-pub mod Members
 pub mod Fields
 pub mod Key
 pub mod Extensions

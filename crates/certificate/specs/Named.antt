@@ -16,7 +16,7 @@ use Rattle.der.specs.declared.walk.Soundness.the-variants.{Sound}
 use Rattle.der.specs.declared.header.Head.{Head}
 use Rattle.times.specs.Reads.{timeOf}
 use Rattle.times.specs.declared.reading.Reading.the-variants.{Is}
-use Rattle.certificate.specs.Members.{missing, firstIn}
+use Rattle.der.specs.Members.{membersIn, missing, firstIn}
 use Rattle.certificate.specs.Fields.{certificateOf}
 use Rattle.certificate.specs.Key.{keyOf}
 use Rattle.certificate.specs.Extensions.{extensionOf}
@@ -30,7 +30,7 @@ pub data VersionNamed (version serial : Head) : List Head → Type 0 where
 -- the extension list is the one member of the [3]; a certificate without a [3] has none
 pub data ExtensionsNamed (s : List ℕ) (list : Head) (end : ℕ) : List Head → Type 0 where
   without : list ≡ missing end → ExtensionsNamed s list end []
-  listed : {h : Head} → childrenOf s (h .body) (h .end) ≡ list ∷ [] → fits extensions s list ≡ Fits → ExtensionsNamed s list end (h ∷ [])
+  listed : {h : Head} → membersIn s h ≡ list ∷ [] → fits extensions s list ≡ Fits → ExtensionsNamed s list end (h ∷ [])
 
 pub record Named (s : List ℕ) : Type 0 where
   pub outermost : Outermost s (childrenOf s 0 (length s))
@@ -59,7 +59,7 @@ pub data CriticalNamed : Bool → List Head → Type 0 where
 pub record ExtensionNamed (s : List ℕ) (h : Head) : Type 0 where
   pub boolean : List Head
   pub tag : h .tag ≡ 0x30
-  pub is : childrenOf s (h .body) (h .end) ≡ firstIn s h ∷ (boolean ++ (extensionOf s h .value ∷ []))
+  pub is : membersIn s h ≡ firstIn s h ∷ (boolean ++ (extensionOf s h .value ∷ []))
   pub identifier-fits : fits oid s (firstIn s h) ≡ Fits
   pub boolean-fits : Optional booleanTrue s boolean
   pub value-fits : fits octetString s (extensionOf s h .value) ≡ Fits
@@ -79,7 +79,7 @@ pub data ParametersNamed (parameters : Head) : List Head → Type 0 where
 
 pub record KeyNamed (s : List ℕ) (key : Head) : Type 0 where
   pub extra : List Head
-  pub is : childrenOf s (key .body) (key .end) ≡ keyOf s key .algorithm ∷ keyOf s key .bits ∷ []
+  pub is : membersIn s key ≡ keyOf s key .algorithm ∷ keyOf s key .bits ∷ []
   pub inner : childrenOf s (keyOf s key .algorithm .body) (keyOf s key .algorithm .end) ≡ firstIn s (keyOf s key .algorithm) ∷ extra
   pub identifier-fits : fits oid s (firstIn s (keyOf s key .algorithm)) ≡ Fits
   pub bits-fits : fits bitString s (keyOf s key .bits) ≡ Fits

@@ -8,7 +8,7 @@ use lib.Dec.{eqb}
 use Rattle.der.specs.Header.{headOf}
 use Rattle.der.specs.declared.header.Head.{Head}
 use Rattle.asn.specs.Answers.{valueOk}
-use Rattle.certificate.specs.Members.{missing, firstIn}
+use Rattle.der.specs.Members.{missing, firstIn}
 use Rattle.certificate.specs.Extensions.{extensionOf, slotOf}
 use Rattle.certificate.specs.declared.slots.Value.{Value}
 

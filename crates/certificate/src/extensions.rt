@@ -1,7 +1,4 @@
 // The extensions of a certificate (RFC 5280, 4.1.2.9), and their slots in document 01's table.
-use crate::members::after;
-use crate::members::first_in;
-use crate::members::past;
 use der::Head;
 ghost use mathlib.Core.Path.{_≡_};
 ghost use Rattle.octets.specs.Octets.{octetsFrom};
@@ -19,11 +16,11 @@ pub struct Extension {
 pub fn extension_of(s: &[u8], h: Head) -> Extension
     ensures { λ r. ⌜ r ≡ extensionOf (now (s .entry)) h ⌝ }
 {
-    let second = after(s, first_in(s, h), h.end);
+    let second = der::second_in(s, h);
     Extension {
         place: h,
         critical: second.tag == 0x01,
-        value: past(0x01, s, second, h.end),
+        value: der::past(0x01, s, second, h.end),
     }
 }
 
@@ -70,7 +67,7 @@ fn slot_for(s: &[u8], body: usize, n: usize) -> usize
 pub fn slot_of(s: &[u8], h: Head) -> usize
     ensures { λ r. ⌜ r ≡ slotOf (now (s .entry)) h ⌝ }
 {
-    let i = first_in(s, h);
+    let i = der::first_in(s, h);
     slot_for(s, i.body, octets::minus(i.end, i.body))
 }
 
@@ -78,24 +75,14 @@ pub fn slot_of(s: &[u8], h: Head) -> usize
 pub fn is_period(s: &[u8], h: Head) -> bool
     ensures { λ r. ⌜ r ≡ isPeriod (now (s .entry)) h ⌝ }
 {
-    let i = first_in(s, h);
-    octets::equals(s, i.body, octets::minus(i.end, i.body), b"\x55\x1D\x10")
+    der::contents_are(s, der::first_in(s, h), b"\x55\x1D\x10")
 }
 
 // Whether two Extensions have one identifier.
 pub fn same_identifier(s: &[u8], a: Head, b: Head) -> bool
     ensures { λ r. ⌜ r ≡ sameIdentifier (now (s .entry)) a b ⌝ }
 {
-    let i = first_in(s, a);
-    let j = first_in(s, b);
-    octets::same_stretch(
-        s,
-        i.body,
-        octets::minus(i.end, i.body),
-        s,
-        j.body,
-        octets::minus(j.end, j.body),
-    )
+    der::same_contents(s, der::first_in(s, a), s, der::first_in(s, b))
 }
 
 // Whether an Extension before h, in a list that starts at `from`, has its identifier (rule 361).

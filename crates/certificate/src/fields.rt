@@ -1,9 +1,5 @@
 // The fields of a certificate, head after head in the order of RFC 5280, 4.1. Nothing is judged here: a certificate
 // that is none is refused before.
-use crate::members::after;
-use crate::members::first_in;
-use crate::members::inside_tag;
-use crate::members::past;
 use der::Head;
 use times::Date;
 use times::Reading;
@@ -72,10 +68,10 @@ fn validity_of(s: &[u8], before: Head, after: Head) -> Validity
 fn list_after(s: &[u8], key: Head, end: usize) -> Head
     ensures { λ r. ⌜ r ≡ listAfter (now (s .entry)) key end ⌝ }
 {
-    let issuer_id = after(s, key, end);
-    let subject_id = past(0x81, s, issuer_id, end);
-    let extended = past(0x82, s, subject_id, end);
-    inside_tag(0xA3, s, extended, end)
+    let issuer_id = der::after(s, key, end);
+    let subject_id = der::past(0x81, s, issuer_id, end);
+    let extended = der::past(0x82, s, subject_id, end);
+    der::inside_tag(0xA3, s, extended, end)
 }
 
 pub fn read(s: &[u8]) -> Certificate
@@ -84,15 +80,15 @@ pub fn read(s: &[u8]) -> Certificate
     let whole = der::head_any(s, 0, s.len());
     let tbs = der::head_any(s, whole.body, whole.end);
     let end = tbs.end;
-    let version = first_in(s, tbs);
-    let serial = past(0xA0, s, version, end);
-    let inner = after(s, serial, end);
-    let issuer = after(s, inner, end);
-    let period = after(s, issuer, end);
-    let not_before = first_in(s, period);
-    let not_after = after(s, not_before, period.end);
-    let subject = after(s, period, end);
-    let key = after(s, subject, end);
+    let version = der::first_in(s, tbs);
+    let serial = der::past(0xA0, s, version, end);
+    let inner = der::after(s, serial, end);
+    let issuer = der::after(s, inner, end);
+    let period = der::after(s, issuer, end);
+    let not_before = der::first_in(s, period);
+    let not_after = der::after(s, not_before, period.end);
+    let subject = der::after(s, period, end);
+    let key = der::after(s, subject, end);
     Certificate {
         tbs: tbs,
         version: version,
@@ -105,7 +101,7 @@ pub fn read(s: &[u8]) -> Certificate
         subject: subject,
         key: key,
         extensions: list_after(s, key, end),
-        outer: after(s, tbs, whole.end),
+        outer: der::after(s, tbs, whole.end),
         validity: validity_of(s, not_before, not_after),
     }
 }

@@ -1,6 +1,5 @@
 // The issuer's certificate, of which two things count: its subject name and its key identifier.
 use crate::fields::read;
-use crate::members::first_in;
 use crate::slots::first_extensions;
 use crate::slots::good_start;
 use crate::slots::holder_at;
@@ -23,7 +22,7 @@ fn key_id_in(i: &[u8], list: Head) -> Head
     let starts = first_extensions(i, list);
     let start = number_at(&starts, 3);
     let holder = holder_at(i, good_start(i, list.end, 3, start));
-    first_in(i, holder)
+    der::first_in(i, holder)
 }
 
 pub fn read_issuer(i: &[u8]) -> Issuer

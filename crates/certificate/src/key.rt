@@ -1,9 +1,6 @@
 // The key of a certificate (RFC 5280, 4.1.2.7).
-use crate::members::after;
-use crate::members::first_in;
 use der::Head;
 ghost use mathlib.Core.Path.{_≡_};
-ghost use Rattle.octets.specs.Octets.{octetsFrom};
 ghost use Rattle.certificate.specs.Key.{kindOf, keyOf};
 
 pub enum KeyKind {
@@ -21,14 +18,14 @@ pub struct Key {
     pub kind: KeyKind,
 }
 
-// The kind of key that an OBJECT IDENTIFIER of n content octets names.
-fn kind_of(s: &[u8], body: usize, n: usize) -> KeyKind
-    ensures { λ r. ⌜ r ≡ kindOf (octetsFrom (now (s .entry)) body n) ⌝ }
+// The kind of key that an OBJECT IDENTIFIER names.
+fn kind_of(s: &[u8], identifier: Head) -> KeyKind
+    ensures { λ r. ⌜ r ≡ kindOf (now (s .entry)) identifier ⌝ }
 {
-    if octets::equals(s, body, n, b"\x2A\x86\x48\x86\xF7\x0D\x01\x01\x01") {
+    if der::contents_are(s, identifier, b"\x2A\x86\x48\x86\xF7\x0D\x01\x01\x01") {
         return KeyKind::Rsa;
     }
-    if octets::equals(s, body, n, b"\x2A\x86\x48\xCE\x3D\x02\x01") {
+    if der::contents_are(s, identifier, b"\x2A\x86\x48\xCE\x3D\x02\x01") {
         return KeyKind::EllipticCurve;
     }
     KeyKind::Other
@@ -37,16 +34,12 @@ fn kind_of(s: &[u8], body: usize, n: usize) -> KeyKind
 pub fn key_of(s: &[u8], key: Head) -> Key
     ensures { λ r. ⌜ r ≡ keyOf (now (s .entry)) key ⌝ }
 {
-    let algorithm = first_in(s, key);
-    let identifier = first_in(s, algorithm);
+    let algorithm = der::first_in(s, key);
+    let identifier = der::first_in(s, algorithm);
     Key {
         algorithm: algorithm,
-        parameters: after(s, identifier, algorithm.end),
-        bits: after(s, algorithm, key.end),
-        kind: kind_of(
-            s,
-            identifier.body,
-            octets::minus(identifier.end, identifier.body),
-        ),
+        parameters: der::after(s, identifier, algorithm.end),
+        bits: der::after(s, algorithm, key.end),
+        kind: kind_of(s, identifier),
     }
 }

@@ -2,8 +2,6 @@
 // number: a start, or 0 for none.
 use crate::extensions::extension_of;
 use crate::extensions::slot_of;
-use crate::members::first_in;
-use crate::members::missing;
 use der::Head;
 ghost use mathlib.Core.Path.{_≡_};
 ghost use lib.ListN.{getD};
@@ -83,7 +81,7 @@ pub fn holder_at(s: &[u8], at: usize) -> Head
     ensures { λ r. ⌜ r ≡ holderAt (now (s .entry)) at ⌝ }
 {
     if at == 0 {
-        return missing(s.len());
+        return der::missing(s.len());
     }
     der::head_at(s, at, s.len())
 }
@@ -95,6 +93,6 @@ pub fn value_at(s: &[u8], values: &[usize], slot: usize) -> Value
     let holder = holder_at(s, number_at(values, slot));
     Value {
         holder: holder,
-        element: first_in(s, holder),
+        element: der::first_in(s, holder),
     }
 }

@@ -3,6 +3,8 @@ pub mod Header
 pub mod Contents
 pub mod Integers
 pub mod Order
+pub mod Members
+pub mod Comparing
 pub mod Elements
 pub mod Soundness
 pub mod Walking

@@ -20,7 +20,7 @@ fn tag_ok(tag: u8) -> bool
     !(tag % 32 == 31) & (!(tag == 0) & !(tag == 32))
 }
 
-fn broken_head(at: usize, end: usize) -> Head
+pub fn broken_head(at: usize, end: usize) -> Head
     ensures { λ r. ⌜ r ≡ brokenHead at end ⌝ }
 {
     Head {

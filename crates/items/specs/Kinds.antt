@@ -3,7 +3,7 @@ use mathlib.Core.Bool.{Bool, true, false, not, _&&_}
 use mathlib.Core.List.{List, [], _∷_}
 use Prim.Native.Nat.{ℕ}
 use lib.Dec.{eqb}
-use Rattle.der.specs.Header.{childrenOf}
+use Rattle.der.specs.Members.{membersIn}
 use Rattle.der.specs.declared.header.Head.{Head}
 use Rattle.profiles.specs.Fields.{isServer}
 use Rattle.profiles.specs.Extensions.{markOf, isUnwanted, isOutOfPlace}
@@ -35,7 +35,7 @@ several (h ∷ g ∷ hs) = true
 
 -- 121 "O: each SET of a subject name with over one member"
 unfoldable pub isCrowded : Profile → List ℕ → Head → Bool
-isCrowded p s h = not (isServer p) && several (childrenOf s (h .body) (h .end))
+isCrowded p s h = not (isServer p) && several (membersIn s h)
 
 -- ---- extensions; list is the start of the list, and "other rules see the first only"
 

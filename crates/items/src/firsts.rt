@@ -1,25 +1,13 @@
-// The first item of a kind. Where there is none, the answer is an empty element at the end of the list.
+// The first item of a kind. Where there is none, the answer is the missing member at the end of the list.
 use crate::kinds::Kind;
 use crate::kinds::broken;
 use der::Head;
 use profiles::Profile;
 ghost use mathlib.Core.Path.{_≡_};
-ghost use Rattle.der.specs.Header.{childrenOf, brokenHead};
+ghost use Rattle.der.specs.Header.{childrenOf};
 ghost use Rattle.report.specs.Forms.{firstOf, noneOf};
 ghost use Rattle.items.specs.Kinds.{breaks};
 ghost use Rattle.items.specs.Lists.{grandchildren};
-
-fn empty_at(end: usize) -> Head
-    ensures { λ r. ⌜ r ≡ brokenHead end end ⌝ }
-{
-    Head {
-        at: end,
-        tag: 0,
-        body: end,
-        end: end,
-        sound: false,
-    }
-}
 
 // Of the elements from `from` to `to`.
 pub fn first(kind: Kind, p: Profile, mark: usize, s: &[u8], from: usize, to: usize) -> Head
@@ -33,7 +21,7 @@ pub fn first(kind: Kind, p: Profile, mark: usize, s: &[u8], from: usize, to: usi
         }
         at = item.end;
     }
-    empty_at(to)
+    der::missing(to)
 }
 
 // Whether there is none among the elements from `from` to `to`.
@@ -57,5 +45,5 @@ pub fn first_within(kind: Kind, p: Profile, mark: usize, s: &[u8], from: usize, 
         }
         at = set.end;
     }
-    empty_at(to)
+    der::missing(to)
 }

@@ -7,9 +7,8 @@ use lib.Dec.{eqb}
 use Rattle.names.specs.Uris.{isUri, isHttp}
 use Rattle.names.specs.declared.access.Method.{Method}
 use Rattle.names.specs.declared.access.Method.the-variants.{Ocsp, CaIssuers}
-use Rattle.octets.specs.Same.{sameBy, exactly}
-use Rattle.der.specs.Header.{headOf}
-use Rattle.der.specs.Contents.{contentsOf}
+use Rattle.der.specs.Members.{firstIn, secondIn}
+use Rattle.der.specs.Comparing.{contentsAre}
 use Rattle.der.specs.declared.header.Head.{Head}
 
 -- id-ad-ocsp is 1.3.6.1.5.5.7.48.1, id-ad-caIssuers 1.3.6.1.5.5.7.48.2
@@ -19,15 +18,15 @@ identifierOf CaIssuers = 43 ∷ 6 ∷ 1 ∷ 5 ∷ 5 ∷ 7 ∷ 48 ∷ 2 ∷ []
 
 -- an OBJECT IDENTIFIER, tag 06, that is the method's
 abbrev pub isMethod : List ℕ → Method → Head → Bool
-isMethod s method h = eqb (h .tag) 6 && sameBy exactly (contentsOf s h) (identifierOf method)
+isMethod s method h = eqb (h .tag) 6 && contentsAre s h (identifierOf method)
 
 -- the entry's first member
 abbrev pub methodOf : List ℕ → Head → Head
-methodOf s h = headOf s (h .body) (h .end)
+methodOf s h = firstIn s h
 
 -- its second
 abbrev pub locationOf : List ℕ → Head → Head
-locationOf s h = headOf s (methodOf s h .end) (h .end)
+locationOf s h = secondIn s h
 
 -- an OCSP entry, or a caIssuers entry
 abbrev pub hasMethod : List ℕ → Method → Head → Bool

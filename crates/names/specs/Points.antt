@@ -8,7 +8,7 @@ use mathlib.Core.Bool.{Bool, cond, _&&_, _||_}
 use Prim.Native.Nat.{ℕ}
 use lib.Dec.{eqb}
 use Rattle.names.specs.Uris.{isHttp}
-use Rattle.der.specs.Header.{headOf, childrenOf}
+use Rattle.der.specs.Members.{membersIn, firstIn}
 use Rattle.der.specs.declared.header.Head.{Head}
 use Rattle.der.specs.Elements.{anyOf}
 
@@ -18,17 +18,13 @@ isRestriction h = eqb (h .tag) 129 || eqb (h .tag) 162
 
 -- 419 "each point with reasons or cRLIssuer"
 abbrev pub isRestricted : List ℕ → Head → Bool
-isRestricted s h = anyOf isRestriction (childrenOf s (h .body) (h .end))
-
--- what stands first in an element
-abbrev pub firstIn : List ℕ → Head → Head
-firstIn s h = headOf s (h .body) (h .end)
+isRestricted s h = anyOf isRestriction (membersIn s h)
 
 -- the names of a point's full name: distributionPoint, tag A0 hex, stands first, and in it fullName, tag A0 hex again
 abbrev pub fullNames : List ℕ → Head → List Head
 fullNames s h =
     cond (eqb (firstIn s h .tag) 160 && eqb (firstIn s (firstIn s h) .tag) 160)
-    (childrenOf s (firstIn s (firstIn s h) .body) (firstIn s (firstIn s h) .end))
+    (membersIn s (firstIn s (firstIn s h)))
     []
 
 -- 418 "an HTTP URI in some full name": this point's

@@ -18,8 +18,8 @@ pub fn restricted(s: &[u8], h: Head) -> bool
 pub fn http_full_name(s: &[u8], h: Head) -> bool
     ensures { λ r. ⌜ r ≡ httpFullName (now (s .entry)) h ⌝ }
 {
-    let name = der::head_at(s, h.body, h.end);
-    let full = der::head_at(s, name.body, name.end);
+    let name = der::first_in(s, h);
+    let full = der::first_in(s, name);
     if (name.tag == 160) & (full.tag == 160) {
         return some(s, Sought::HttpUri, full.body, full.end);
     }

@@ -1,7 +1,7 @@
 -- Rules 361 to 363 of an extension list (document 01, "Rules on extensions"); "361 to 363 at the Extension".
 use mathlib.Core.List.{List, _++_}
 use Prim.Native.Nat.{ℕ}
-use Rattle.der.specs.Header.{childrenOf}
+use Rattle.der.specs.Members.{membersIn}
 use Rattle.der.specs.declared.header.Head.{Head}
 use Rattle.profiles.specs.declared.fields.Profile.{Profile}
 use Rattle.certificate.specs.Extensions.{seenBefore}
@@ -10,7 +10,7 @@ use Rattle.report.specs.Forms.{each}
 use Rattle.report.specs.declared.sink.Entry.{Entry}
 
 abbrev pub extensionsIn : List ℕ → Head → List Head
-extensionsIn s list = childrenOf s (list .body) (list .end)
+extensionsIn s list = membersIn s list
 
 -- 361 "each later extension with an identifier seen before"
 abbrev pub rule361 : List ℕ → Head → List Entry

@@ -2,9 +2,7 @@
 use mathlib.Core.Bool.{Bool, not}
 use mathlib.Core.List.{List, [], _∷_, _++_}
 use Prim.Native.Nat.{ℕ}
-use Rattle.octets.specs.Same.{sameBy, exactly}
-use Rattle.der.specs.Contents.{contentsOf}
-use Rattle.der.specs.Order.{octetsOf}
+use Rattle.der.specs.Comparing.{contentsAre, octetsAre, sameElement}
 use Rattle.der.specs.declared.header.Head.{Head}
 use Rattle.certificate.specs.declared.fields.Certificate.{Certificate}
 use Rattle.report.specs.Entries.{noted}
@@ -17,7 +15,7 @@ sha256Rsa =
 
 -- an AlgorithmIdentifier holds these and nothing else
 abbrev pub isSha256Rsa : List ℕ → Head → Bool
-isSha256Rsa s algorithm = sameBy exactly (contentsOf s algorithm) sha256Rsa
+isSha256Rsa s algorithm = contentsAre s algorithm sha256Rsa
 
 -- "105 inner, 106 outer algorithm is 1.2.840.113549.1.1.11 with NULL"
 abbrev pub rule105 : List ℕ → Certificate → List Entry
@@ -28,11 +26,11 @@ rule106 s c = noted 106 (not (isSha256Rsa s (c .outer))) (c .outer)
 
 -- 107 "the two equal as octets (at outer)"
 abbrev pub rule107 : List ℕ → Certificate → List Entry
-rule107 s c = noted 107 (not (sameBy exactly (octetsOf s (c .inner)) (octetsOf s (c .outer)))) (c .outer)
+rule107 s c = noted 107 (not (sameElement s (c .inner) s (c .outer))) (c .outer)
 
 -- 108 "issuer name equals the issuer's subject, octet by octet"; subject is that name
 abbrev pub rule108 : List ℕ → Certificate → List ℕ → List Entry
-rule108 s c subject = noted 108 (not (sameBy exactly (octetsOf s (c .issuer)) subject)) (c .issuer)
+rule108 s c subject = noted 108 (not (octetsAre s (c .issuer) subject)) (c .issuer)
 
 unfoldable pub algorithmsAndName : List ℕ → Certificate → List ℕ → List Entry
 algorithmsAndName s c subject = rule105 s c ++ (rule106 s c ++ (rule107 s c ++ rule108 s c subject))

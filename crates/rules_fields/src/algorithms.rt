@@ -2,7 +2,6 @@
 use certificate::Certificate;
 use der::Head;
 ghost use mathlib.Core.Path.{_≡_};
-ghost use Rattle.octets.specs.Same.{sameBy, exactly};
 ghost use Rattle.der.specs.Order.{octetsOf};
 ghost use Rattle.report.specs.Putting.{Put};
 ghost use Rattle.rules_fields.specs.Algorithms.{isSha256Rsa, algorithmsAndName};
@@ -10,25 +9,10 @@ ghost use Rattle.rules_fields.specs.Algorithms.{isSha256Rsa, algorithmsA
 fn is_sha256_rsa(s: &[u8], algorithm: Head) -> bool
     ensures { λ r. ⌜ r ≡ isSha256Rsa (now (s .entry)) algorithm ⌝ }
 {
-    octets::equals(
+    der::contents_are(
         s,
-        algorithm.body,
-        octets::minus(algorithm.end, algorithm.body),
+        algorithm,
         b"\x06\x09\x2A\x86\x48\x86\xF7\x0D\x01\x01\x0B\x05\x00",
-    )
-}
-
-// Whether two elements, perhaps of two certificates, are the same octets.
-fn same_element(s: &[u8], a: Head, t: &[u8], b: Head) -> bool
-    ensures { λ r. ⌜ r ≡ sameBy exactly (octetsOf (now (s .entry)) a) (octetsOf (now (t .entry)) b) ⌝ }
-{
-    octets::same_stretch(
-        s,
-        a.at,
-        octets::minus(a.end, a.at),
-        t,
-        b.at,
-        octets::minus(b.end, b.at),
     )
 }
 
@@ -44,8 +28,8 @@ pub fn algorithms_and_name(
 {
     let inner = !is_sha256_rsa(s, c.inner);
     let outer = !is_sha256_rsa(s, c.outer);
-    let differ = !same_element(s, c.inner, s, c.outer);
-    let stranger = !same_element(s, c.issuer, issuer, name);
+    let differ = !der::same_element(s, c.inner, s, c.outer);
+    let stranger = !der::same_element(s, c.issuer, issuer, name);
     let a = report::note(room, n, 105, inner, c.inner);
     let b = report::note(room, a, 106, outer, c.outer);
     let d = report::note(room, b, 107, differ, c.outer);

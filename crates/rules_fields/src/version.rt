@@ -12,13 +12,7 @@ fn is_v3(s: &[u8], version: Head) -> bool
     ensures { λ r. ⌜ r ≡ isV3 (now (s .entry)) version ⌝ }
 {
     if version.tag == 0xA0 {
-        let number = certificate::first_in(s, version);
-        return octets::equals(
-            s,
-            number.body,
-            octets::minus(number.end, number.body),
-            b"\x02",
-        );
+        return der::contents_are(s, der::first_in(s, version), b"\x02");
     }
     false
 }

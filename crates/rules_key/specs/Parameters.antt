@@ -2,13 +2,12 @@
 use mathlib.Core.List.{List, [], _∷_}
 use mathlib.Core.Bool.{Bool, _||_}
 use Prim.Native.Nat.{ℕ}
-use Rattle.octets.specs.Same.{sameBy, exactly}
-use Rattle.der.specs.Order.{octetsOf}
+use Rattle.der.specs.Comparing.{octetsAre}
 use Rattle.der.specs.declared.header.Head.{Head}
 
 -- NULL: tag 5, no contents
 abbrev pub isNull : List ℕ → Head → Bool
-isNull s h = sameBy exactly (octetsOf s h) (0x05 ∷ 0x00 ∷ [])
+isNull s h = octetsAre s h (0x05 ∷ 0x00 ∷ [])
 
 -- The curves that document 000 lists ("Server Authentication Certificate Profile", the full table, row "Subject Public Key Information"), as
 -- OBJECT IDENTIFIERs (tag 6): "Curve P-256 {1.2.840.10045.3.1.7}"
@@ -24,4 +23,4 @@ abbrev pub p521 : List ℕ
 p521 = 0x06 ∷ 0x05 ∷ 0x2B ∷ 0x81 ∷ 0x04 ∷ 0x00 ∷ 0x23 ∷ []
 
 abbrev pub isCurve : List ℕ → Head → Bool
-isCurve s h = sameBy exactly (octetsOf s h) p256 || (sameBy exactly (octetsOf s h) p384 || sameBy exactly (octetsOf s h) p521)
+isCurve s h = octetsAre s h p256 || (octetsAre s h p384 || octetsAre s h p521)

@@ -7,7 +7,7 @@ use Rattle.profiles.specs.Fields.{isServer}
 use Rattle.profiles.specs.declared.fields.Profile.{Profile}
 use Rattle.certificate.specs.Slots.{valueAt}
 use Rattle.certificate.specs.declared.slots.Value.{Value}
-use Rattle.values.specs.Items.{itemsOf}
+use Rattle.der.specs.Members.{membersIn}
 use Rattle.names.specs.Access.{uriBy}
 use Rattle.names.specs.declared.access.Method.{Method}
 use Rattle.names.specs.declared.access.Method.the-variants.{Ocsp, CaIssuers}
@@ -19,7 +19,7 @@ use Rattle.der.specs.Elements.{anyOf}
 
 -- the value is judged, and has no entry with this method and a URI
 abbrev pub lacksUri : List ℕ → Head → Method → Bool
-lacksUri s v method = v .sound && not (anyOf (uriBy s method) (itemsOf s v))
+lacksUri s v method = v .sound && not (anyOf (uriBy s method) (membersIn s v))
 
 -- 415 "S: an OCSP entry with a URI"
 abbrev pub rule415 : Profile → List ℕ → Value → List Entry
@@ -31,7 +31,7 @@ rule416 s v = noted 416 (lacksUri s (v .element) CaIssuers) (v .holder)
 
 -- 417 "S: each caIssuers entry not an HTTP URI"
 abbrev pub rule417 : Profile → List ℕ → Value → List Entry
-rule417 p s v = each 417 (isNotHttp p s) (itemsOf s (v .element))
+rule417 p s v = each 417 (isNotHttp p s) (membersIn s (v .element))
 
 -- slot 8 AIA
 unfoldable pub accessFindings : Profile → List ℕ → List ℕ → List Entry

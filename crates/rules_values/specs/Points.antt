@@ -5,7 +5,7 @@ use Prim.Native.Nat.{ℕ}
 use Rattle.der.specs.declared.header.Head.{Head}
 use Rattle.certificate.specs.Slots.{valueAt}
 use Rattle.certificate.specs.declared.slots.Value.{Value}
-use Rattle.values.specs.Items.{itemsOf}
+use Rattle.der.specs.Members.{membersIn}
 use Rattle.names.specs.Points.{httpFullName, isRestricted}
 use Rattle.report.specs.Entries.{noted}
 use Rattle.report.specs.Forms.{each}
@@ -14,7 +14,7 @@ use Rattle.der.specs.Elements.{anyOf}
 
 -- the value is judged, and no full name has an HTTP URI
 abbrev pub lacksHttp : List ℕ → Head → Bool
-lacksHttp s v = v .sound && not (anyOf (httpFullName s) (itemsOf s v))
+lacksHttp s v = v .sound && not (anyOf (httpFullName s) (membersIn s v))
 
 -- 418 "an HTTP URI in some full name"
 abbrev pub rule418 : List ℕ → Value → List Entry
@@ -22,7 +22,7 @@ rule418 s v = noted 418 (lacksHttp s (v .element)) (v .holder)
 
 -- 419 "each point with reasons or cRLIssuer"
 abbrev pub rule419 : List ℕ → Value → List Entry
-rule419 s v = each 419 (isRestricted s) (itemsOf s (v .element))
+rule419 s v = each 419 (isRestricted s) (membersIn s (v .element))
 
 -- slot 9 CRL points
 unfoldable pub pointFindings : List ℕ → List ℕ → List Entry

@@ -5,7 +5,7 @@ use Rattle.profiles.specs.Fields.{isServer}
 use Rattle.profiles.specs.declared.fields.Profile.{Profile}
 use Rattle.certificate.specs.Slots.{valueAt}
 use Rattle.certificate.specs.declared.slots.Value.{Value}
-use Rattle.values.specs.Items.{itemsOf}
+use Rattle.der.specs.Members.{membersIn}
 use Rattle.values.specs.Purposes.{noWantedPurpose}
 use Rattle.items.specs.Kinds.{isOtherPurpose}
 use Rattle.report.specs.Entries.{noted}
@@ -18,7 +18,7 @@ rule407 p s v = noted 407 (noWantedPurpose s (v .element) (isServer p)) (v .hold
 
 -- 408 "each other purpose, clientAuth excepted for S"
 abbrev pub rule408 : Profile → List ℕ → Value → List Entry
-rule408 p s v = each 408 (isOtherPurpose p s) (itemsOf s (v .element))
+rule408 p s v = each 408 (isOtherPurpose p s) (membersIn s (v .element))
 
 -- slot 5 extended key usage
 unfoldable pub purposeFindings : Profile → List ℕ → List ℕ → List Entry

@@ -5,7 +5,8 @@ use mathlib.Core.Bool.{Bool, true, false, not, _&&_}
 use Prim.Native.Nat.{ℕ}
 use lib.ListN.{length}
 use lib.Dec.{eqb}
-use Rattle.values.specs.Items.{firstItem, contentsAre}
+use Rattle.der.specs.Members.{firstIn}
+use Rattle.der.specs.Comparing.{contentsAre}
 use Rattle.values.specs.Identifiers.{KeyIdentifier, otherAuthority, notEmpty, notTwenty}
 use Rattle.values.specs.Usage.{bitAt, anyBelow, unsignedOf, otherBits, otherUsage}
 use Rattle.values.specs.Purposes.{noWantedPurpose, otherPurpose}
@@ -104,7 +105,7 @@ abbrev unwanted : Bool → List ℕ → Bool
 unwanted server s = noWantedPurpose s (whole s) server
 
 abbrev other : Bool → List ℕ → Bool
-other server s = otherPurpose s (firstItem s (whole s)) server
+other server s = otherPurpose s (firstIn s (whole s)) server
 
 unfoldable pub purposeExamples : List Example
 purposeExamples =
@@ -131,7 +132,7 @@ lacks last s = lacksPolicy s (whole s) last
 
 -- the first qualifier of the first policy
 abbrev qualifier : List ℕ → Bool
-qualifier s = otherQualifier s (firstItem s (qualifiersOf s (firstItem s (whole s))))
+qualifier s = otherQualifier s (firstIn s (qualifiersOf s (firstIn s (whole s))))
 
 -- one policy with one qualifier, by its last arc, whose value is NULL
 abbrev qualified : ℕ → List ℕ

@@ -1,5 +1,4 @@
 -- Laws of the definitions, by file.
-pub mod Items
 pub mod Identifiers
 pub mod Usage
 pub mod Policies

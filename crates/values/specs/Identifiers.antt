@@ -3,9 +3,9 @@ use mathlib.Core.List.{List, [], _∷_}
 use mathlib.Core.Bool.{Bool, true, false, cond, not, _&&_}
 use Prim.Native.Nat.{ℕ, _-_}
 use lib.Dec.{ltb, eqb}
-use Rattle.values.specs.Items.{itemsOf}
 use Rattle.octets.specs.Same.{sameBy, exactly}
 use Rattle.der.specs.Contents.{contentsOf}
+use Rattle.der.specs.Members.{firstIn}
 use Rattle.der.specs.declared.header.Head.{Head}
 
 -- the key identifier that a certificate has, if it has one
@@ -19,12 +19,8 @@ abbrev pub keyIdentifierOf : List ℕ → Head → KeyIdentifier
 keyIdentifierOf i h = cond (h .sound) (KeyIdentifier.some (contentsOf i h)) KeyIdentifier.none
 
 -- AuthorityKeyIdentifier ::= SEQUENCE { keyIdentifier [0] KeyIdentifier OPTIONAL, .. }: the first member, if its tag is [0], 80 hex
-abbrev pub firstKey : List ℕ → List Head → KeyIdentifier
-firstKey s [] = KeyIdentifier.none
-firstKey s (h ∷ hs) = cond (eqb (h .tag) 0x80) (KeyIdentifier.some (contentsOf s h)) KeyIdentifier.none
-
 abbrev pub authorityKey : List ℕ → Head → KeyIdentifier
-authorityKey s v = firstKey s (itemsOf s v)
+authorityKey s v = cond (eqb (firstIn s v .tag) 0x80) (KeyIdentifier.some (contentsOf s (firstIn s v))) KeyIdentifier.none
 
 -- both are there, and are the same octets
 abbrev pub sameKey : KeyIdentifier → KeyIdentifier → Bool

@@ -1,5 +1,4 @@
 -- What rules 401 to 411 say of an extension's value (document 01, "Rules on extensions"), in the order of the rules.
-pub mod Items
 pub mod Identifiers
 pub mod Usage
 pub mod Purposes

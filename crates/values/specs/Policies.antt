@@ -5,8 +5,9 @@ use mathlib.Core.List.{List, [], _∷_}
 use mathlib.Core.Bool.{Bool, true, false, not, _&&_}
 use Prim.Native.Nat.{ℕ}
 use lib.Dec.{eqb}
-use Rattle.values.specs.Items.{itemsOf, firstItem, secondItem, identifierIs}
 use Rattle.der.specs.Contents.{contentsOf}
+use Rattle.der.specs.Members.{membersIn, firstIn, secondIn}
+use Rattle.der.specs.Comparing.{contentsAre}
 use Rattle.der.specs.declared.header.Head.{Head}
 use Rattle.der.specs.Elements.{anyOf}
 
@@ -27,23 +28,23 @@ forumPolicy last = 0x67 ∷ 0x81 ∷ 0x0C ∷ 1 ∷ 2 ∷ last ∷ []
 
 -- whether a PolicyInformation names a policy below the arc
 unfoldable pub policyBelow : List ℕ → Head → Bool
-policyBelow s h = isBelow federalArc (contentsOf s (firstItem s h))
+policyBelow s h = isBelow federalArc (contentsOf s (firstIn s h))
 
 -- whether it names this policy of the Forum
 abbrev pub policyIs : List ℕ → ℕ → Head → Bool
-policyIs s last h = identifierIs s (forumPolicy last) h
+policyIs s last h = contentsAre s (firstIn s h) (forumPolicy last)
 
 -- 409 "a policy below 2.16.840.1.101.3.2.1.3" is broken: there is none
 unfoldable pub noneBelow : List ℕ → Head → Bool
-noneBelow s v = v .sound && not (anyOf (policyBelow s) (itemsOf s v))
+noneBelow s v = v .sound && not (anyOf (policyBelow s) (membersIn s v))
 
 -- 410 "2.23.140.1.2.1 (1) or 2.23.140.1.2.2 (2)" is broken: it is not there. (The last arc is 1 for profile 1 and 2 for profile 2.)
 unfoldable pub lacksPolicy : List ℕ → Head → ℕ → Bool
-lacksPolicy s v last = v .sound && not (anyOf (policyIs s last) (itemsOf s v))
+lacksPolicy s v last = v .sound && not (anyOf (policyIs s last) (membersIn s v))
 
 -- the qualifiers of a PolicyInformation, or an element that is not sound and holds nothing
 abbrev pub qualifiersOf : List ℕ → Head → Head
-qualifiersOf s policy = secondItem s policy
+qualifiersOf s policy = secondIn s policy
 
 -- id-qt-cps, 1.3.6.1.5.5.7.2.1
 abbrev pub practiceStatement : List ℕ
@@ -51,4 +52,4 @@ practiceStatement = 0x2B ∷ 6 ∷ 1 ∷ 5 ∷ 5 ∷ 7 ∷ 2 ∷ 1 ∷ []
 
 -- 411 "each qualifier other than 1.3.6.1.5.5.7.2.1": the PolicyQualifierInfo h is one
 unfoldable pub otherQualifier : List ℕ → Head → Bool
-otherQualifier s h = not (identifierIs s practiceStatement h)
+otherQualifier s h = not (contentsAre s (firstIn s h) practiceStatement)

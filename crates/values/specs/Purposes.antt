@@ -2,7 +2,8 @@
 use mathlib.Core.List.{List, [], _∷_}
 use mathlib.Core.Bool.{Bool, cond, not, _&&_, _||_}
 use Prim.Native.Nat.{ℕ}
-use Rattle.values.specs.Items.{itemsOf, contentsAre}
+use Rattle.der.specs.Members.{membersIn}
+use Rattle.der.specs.Comparing.{contentsAre}
 use Rattle.der.specs.declared.header.Head.{Head}
 use Rattle.der.specs.Elements.{anyOf}
 
@@ -22,7 +23,7 @@ ocspSigning = 9
 
 -- whether an item is this purpose
 abbrev pub purposeIs : List ℕ → ℕ → Head → Bool
-purposeIs s last h = contentsAre s (keyPurpose last) h
+purposeIs s last h = contentsAre s h (keyPurpose last)
 
 -- "serverAuth (S) or OCSPSigning (O)"
 abbrev pub wantedPurpose : Bool → ℕ
@@ -30,7 +31,7 @@ wantedPurpose server = cond server serverAuth ocspSigning
 
 -- 407 "serverAuth (S) or OCSPSigning (O) present" is broken
 unfoldable pub noWantedPurpose : List ℕ → Head → Bool → Bool
-noWantedPurpose s v server = v .sound && not (anyOf (purposeIs s (wantedPurpose server)) (itemsOf s v))
+noWantedPurpose s v server = v .sound && not (anyOf (purposeIs s (wantedPurpose server)) (membersIn s v))
 
 -- 408 "each other purpose, clientAuth excepted for S": h is one. (A wanted purpose that is named twice is not another purpose.)
 unfoldable pub otherPurpose : List ℕ → Head → Bool → Bool

@@ -1,6 +1,4 @@
 // Rules 401 to 403: both key identifiers, and basic constraints.
-use crate::members::first_item;
-use crate::members::same_contents;
 use der::Head;
 ghost use mathlib.Core.Path.{_≡_};
 ghost use Rattle.values.specs.Identifiers.{keyIdentifierOf, otherAuthority, notEmpty, notTwenty};
@@ -10,8 +8,8 @@ pub fn other_authority(s: &[u8], v: Head, i: &[u8], key: Head) -> bool
     ensures { λ r. ⌜ r ≡ otherAuthority (now (s .entry)) v (keyIdentifierOf (now (i .entry)) key) ⌝ }
 {
     if v.sound {
-        let member = first_item(s, v);
-        let same = same_contents(s, member, i, key);
+        let member = der::first_in(s, v);
+        let same = der::same_contents(s, member, i, key);
         return !((member.tag == 128) & (key.sound & same));
     }
     false

@@ -1,7 +1,6 @@
 // What rules 401 to 411 say of an extension's value. `v` is the value's one element. A value that is missing or bad
 // is a head that is not sound, and breaks no rule here: it is not judged.
 mod identifiers;
-mod members;
 mod policies;
 mod purposes;
 mod usage;

@@ -1,6 +1,4 @@
 // Rules 409 to 411: certificate policies and their qualifiers.
-use crate::members::identifier_is;
-use crate::members::second_item;
 use crate::wanted::Wanted;
 use crate::wanted::any_wanted;
 use der::Head;
@@ -25,12 +23,12 @@ pub fn lacks_policy(s: &[u8], v: Head, last: u8) -> bool
 pub fn qualifiers_of(s: &[u8], policy: Head) -> Head
     ensures { λ r. ⌜ r ≡ qualifiersOf (now (s .entry)) policy ⌝ }
 {
-    second_item(s, policy)
+    der::second_in(s, policy)
 }
 
 // Whether the PolicyQualifierInfo h is one that rule 411 speaks of.
 pub fn other_qualifier(s: &[u8], h: Head) -> bool
     ensures { λ r. ⌜ r ≡ otherQualifier (now (s .entry)) h ⌝ }
 {
-    !identifier_is(s, b"\x2b\x06\x01\x05\x05\x07\x02\x01", h)
+    !der::contents_are(s, der::first_in(s, h), b"\x2b\x06\x01\x05\x05\x07\x02\x01")
 }

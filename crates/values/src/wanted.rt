@@ -1,10 +1,7 @@
 // One search for what rules 407, 409 and 410 want among the items of a value.
-use crate::members::contents_are;
-use crate::members::first_item;
-use crate::members::identifier_is;
 use der::Head;
 ghost use mathlib.Core.Path.{_≡_};
-ghost use Rattle.values.specs.Items.{itemsOf};
+ghost use Rattle.der.specs.Members.{membersIn};
 ghost use Rattle.values.specs.Purposes.{purposeIs};
 ghost use Rattle.values.specs.Policies.{policyIs, policyBelow};
 ghost use Rattle.values.specs.Wanted.{isWanted};
@@ -21,20 +18,20 @@ pub fn purpose_is(s: &[u8], last: u8, h: Head) -> bool
     ensures { λ r. ⌜ r ≡ purposeIs (now (s .entry)) last h ⌝ }
 {
     let purpose = [0x2b, 6, 1, 5, 5, 7, 3, last];
-    contents_are(s, &purpose, h)
+    der::contents_are(s, h, &purpose)
 }
 
 fn policy_is(s: &[u8], last: u8, h: Head) -> bool
     ensures { λ r. ⌜ r ≡ policyIs (now (s .entry)) last h ⌝ }
 {
     let policy = [0x67, 0x81, 0x0c, 1, 2, last];
-    identifier_is(s, &policy, h)
+    der::contents_are(s, der::first_in(s, h), &policy)
 }
 
 fn policy_below(s: &[u8], h: Head) -> bool
     ensures { λ r. ⌜ r ≡ policyBelow (now (s .entry)) h ⌝ }
 {
-    let policy = first_item(s, h);
+    let policy = der::first_in(s, h);
     let body = policy.body;
     let begins = octets::equals(s, body, 9, b"\x60\x86\x48\x01\x65\x03\x02\x01\x03");
     (9 < octets::minus(policy.end, body)) & begins
@@ -52,7 +49,7 @@ fn is_wanted(s: &[u8], w: Wanted, h: Head) -> bool
 
 // Whether any item of v is what is wanted.
 pub fn any_wanted(s: &[u8], w: Wanted, v: Head) -> bool
-    ensures { λ r. ⌜ r ≡ anyOf (isWanted (now (s .entry)) w) (itemsOf (now (s .entry)) v) ⌝ }
+    ensures { λ r. ⌜ r ≡ anyOf (isWanted (now (s .entry)) w) (membersIn (now (s .entry)) v) ⌝ }
 {
     let end = v.end;
     let mut i = v.body;

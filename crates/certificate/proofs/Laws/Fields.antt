@@ -8,7 +8,7 @@ use lib.ListN.{length}
 use Rattle.der.specs.Header.{headOf}
 use Rattle.der.specs.declared.header.Head.{Head}
 use Rattle.times.specs.declared.validity.Validity.{Validity}
-use Rattle.certificate.specs.Members.{firstIn, after, past}
+use Rattle.der.specs.Members.{firstIn, after, past}
 use Rattle.certificate.specs.Fields.{wholeOf, tbsOf, outerOf, versionIn, serialIn, innerIn, issuerIn, periodIn, subjectIn, keyIn, listAfter, extensionsIn, notBeforeIn, notAfterIn, validityOf, certificateOf}
 use Rattle.certificate.specs.declared.fields.Certificate.{Certificate}
 

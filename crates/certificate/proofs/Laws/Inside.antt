@@ -31,7 +31,7 @@ use Rattle.certificate.specs.Key.{keyOf}
 use Rattle.certificate.specs.Extensions.{slotOf, extensionOf}
 use Rattle.certificate.specs.Slots.{orElse, startIn, startsOf, valueFrom, goodStart, valuesOf, holderAt, valueAt}
 use Rattle.certificate.specs.Issuer.{keyIdIn, issuerOf}
-use Rattle.certificate.specs.Members.{missing, firstIn, after, past, insideTag}
+use Rattle.der.specs.Members.{missing, firstIn, after, past, insideTag}
 use Rattle.certificate.proofs.Laws.Slots.{start-at, start-past, value-start, value-past}
 
 pub between-wider : (a b c d : ℕ) (h : Head) → a ≤ b → c ≤ d → Between b c h → Between a d h

@@ -11,7 +11,7 @@ use lib.Dec.{eqb}
 use Rattle.octets.specs.Octets.{octetsFrom}
 use Rattle.der.specs.Contents.{contentsOf}
 use Rattle.der.specs.declared.header.Head.{Head}
-use Rattle.certificate.specs.Members.{firstIn, after, past, insideTag}
+use Rattle.der.specs.Members.{firstIn, after, secondIn, past, insideTag}
 use Rattle.certificate.specs.Fields.{listAfter, certificateOf}
 use Rattle.certificate.specs.Key.{kindOf, keyOf}
 use Rattle.certificate.specs.Extensions.{extensionOf}
@@ -29,21 +29,25 @@ pub contents-read : (s : List ℕ) (x h : Head) (n : ℕ) → h ≡ x → n ≡ 
 contents-read s x h n p q = (λ k. octetsFrom s (h .body) (q k)) ∙ (λ k. contentsOf s (p k))
 
 module _ (s : List ℕ) where
-  pub key-law : (key algorithm identifier parameters bits : Head) (kind : KeyKind) (n : ℕ) → algorithm ≡ firstIn s key → identifier ≡ firstIn s algorithm → parameters ≡ after s identifier (algorithm .end) → bits ≡ after s algorithm (key .end) → n ≡ identifier .end - identifier .body → kind ≡ kindOf (octetsFrom s (identifier .body) n) → _≡_ {A = Key} (record { algorithm = algorithm; parameters = parameters; bits = bits; kind = kind }) (keyOf s key)
+  pub key-law : (key algorithm identifier parameters bits : Head) (kind : KeyKind)
+      → algorithm ≡ firstIn s key → identifier ≡ firstIn s algorithm
+      → parameters ≡ after s identifier (algorithm .end) → bits ≡ after s algorithm (key .end) → kind ≡ kindOf s identifier
+      → _≡_ {A = Key} (record { algorithm = algorithm; parameters = parameters; bits = bits; kind = kind }) (keyOf s key)
   unfolding keyOf
-  key-law key algorithm identifier parameters bits kind n a i p b m k =
+  key-law key algorithm identifier parameters bits kind a i p b k =
       let identified : identifier ≡ firstIn s (firstIn s key) = i ∙ (λ j. firstIn s (a j)) in
-      let parameters-are : parameters ≡ after s (firstIn s (firstIn s key)) (firstIn s key .end) = p ∙ (λ j. after s (identified j) (a j .end)) in
+      let parameters-are : parameters ≡ after s (firstIn s (firstIn s key)) (firstIn s key .end) =
+      p ∙ (λ j. after s (identified j) (a j .end)) in
       let bits-are : bits ≡ after s (firstIn s key) (key .end) = b ∙ (λ j. after s (a j) (key .end)) in
-      let kind-is : kind ≡ kindOf (contentsOf s (firstIn s (firstIn s key))) = k ∙ (λ j. kindOf (contents-read s _ identifier n identified m j)) in
+      let kind-is : kind ≡ kindOf s (firstIn s (firstIn s key)) = k ∙ (λ j. kindOf s (identified j)) in
       λ j. record { algorithm = a j; parameters = parameters-are j; bits = bits-are j; kind = kind-is j }
 
-  pub extension-law : (h first second value : Head) → first ≡ firstIn s h → second ≡ after s first (h .end) → value ≡ past 0x01 s second (h .end) → _≡_ {A = Extension} (record { place = h; critical = eqb (second .tag) 0x01; value = value }) (extensionOf s h)
+  pub extension-law : (h second value : Head) → second ≡ secondIn s h → value ≡ past 0x01 s second (h .end)
+      → _≡_ {A = Extension} (record { place = h; critical = eqb (second .tag) 0x01; value = value }) (extensionOf s h)
   unfolding extensionOf
-  extension-law h first second value f c v =
-      let second-is : second ≡ after s (firstIn s h) (h .end) = c ∙ (λ j. after s (f j) (h .end)) in
-      let value-is : value ≡ past 0x01 s (after s (firstIn s h) (h .end)) (h .end) = v ∙ (λ j. past 0x01 s (second-is j) (h .end)) in
-      λ j. record { place = h; critical = eqb (second-is j .tag) 0x01; value = value-is j }
+  extension-law h second value c v =
+      let value-is : value ≡ past 0x01 s (secondIn s h) (h .end) = v ∙ (λ j. past 0x01 s (c j) (h .end)) in
+      λ j. record { place = h; critical = eqb (c j .tag) 0x01; value = value-is j }
 
   -- past the two unique identifiers
   pub list-law : (key one two three list : Head) (end : ℕ) → one ≡ after s key end → two ≡ past 0x81 s one end → three ≡ past 0x82 s two end → list ≡ insideTag 0xA3 s three end → list ≡ listAfter s key end

@@ -28,7 +28,7 @@ use Rattle.asn.specs.Fields.{Optional, Outermost, TbsFields}
 use Rattle.asn.specs.Fields.Optional.{absent, present}
 use Rattle.asn.specs.declared.fitting.Verdict.the-variants.{Stranger, Fits, Wrong}
 use Rattle.asn.proofs.Laws.Fields.{parts-fit, one-fits, done-fits, certificate-fields, tbs-fields}
-use Rattle.certificate.specs.Members.{firstIn, after, past, insideTag}
+use Rattle.der.specs.Members.{firstIn, after, past, insideTag}
 use Rattle.certificate.specs.Fields.{wholeOf, tbsOf, outerOf, versionIn, serialIn, innerIn, issuerIn, periodIn, subjectIn, keyIn, extendedAfter, listAfter, extensionsIn, notBeforeIn, notAfterIn, timeIs, timeIn, validityOf, certificateOf}
 use Rattle.certificate.specs.Named.{VersionNamed, ExtensionsNamed, Named}
 use Rattle.certificate.specs.Named.VersionNamed.{unwritten, written}

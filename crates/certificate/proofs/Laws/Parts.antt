@@ -21,7 +21,7 @@ use Rattle.asn.specs.Fields.Optional.{absent, present}
 use Rattle.asn.specs.declared.fitting.Verdict.{Verdict}
 use Rattle.asn.specs.declared.fitting.Verdict.the-variants.{Stranger, Fits, Wrong}
 use Rattle.asn.proofs.Laws.Fields.{parts-fit, one-fits, opt-fits, done-fits}
-use Rattle.certificate.specs.Members.{firstIn}
+use Rattle.der.specs.Members.{firstIn}
 use Rattle.certificate.specs.Fields.{certificateOf}
 use Rattle.certificate.specs.Key.{keyOf}
 use Rattle.certificate.specs.Extensions.{extensionOf}

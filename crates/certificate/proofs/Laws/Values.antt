@@ -12,8 +12,8 @@ use native.Mathlib.Omega.{arith}
 use lib.ListN.{length, getD}
 use lib.Dec.{ltb, leb, eqb}
 use borrow.Author.Tests.{ltb-true, ltb-false, le-leb, eq-eqb, ne-eqb}
-use Rattle.certificate.specs.Members.{firstIn, after, past}
-use Rattle.certificate.specs.Extensions.{secondIn, slotOf, extensionOf, sameIdentifier, seenBefore}
+use Rattle.der.specs.Members.{firstIn, after, secondIn, past}
+use Rattle.certificate.specs.Extensions.{slotOf, extensionOf, sameIdentifier, seenBefore}
 use Rattle.certificate.specs.Slots.{startIn, valueFrom, goodStart, valuesOf, holderAt, valueAt}
 use Rattle.certificate.specs.Named.{AllNamed, ValueNamed}
 use Rattle.certificate.specs.Named.AllNamed.{more}

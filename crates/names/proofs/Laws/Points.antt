@@ -8,12 +8,14 @@ use Prim.Native.Nat.{ℕ}
 use lib.Dec.{eqb}
 use Rattle.names.specs.Uris.{isHttp}
 use Rattle.names.specs.Points.{httpFullName}
-use Rattle.der.specs.Header.{headOf, childrenOf}
+use Rattle.der.specs.Header.{childrenOf}
+use Rattle.der.specs.Members.{firstIn}
 use Rattle.der.specs.declared.header.Head.{Head}
 use Rattle.der.specs.Elements.{anyOf}
 
-module _ (s : List ℕ) (h name full : Head) (e : name ≡ headOf s (h .body) (h .end)) (f : full ≡ headOf s (name .body) (name .end)) where
-  pub point-full : (eqb (name .tag) 160 && eqb (full .tag) 160) ≡ true → anyOf (isHttp s) (childrenOf s (full .body) (full .end)) ≡ httpFullName s h
+module _ (s : List ℕ) (h name full : Head) (e : name ≡ firstIn s h) (f : full ≡ firstIn s name) where
+  pub point-full : (eqb (name .tag) 160 && eqb (full .tag) 160) ≡ true
+      → anyOf (isHttp s) (childrenOf s (full .body) (full .end)) ≡ httpFullName s h
   point-full t = rw (← e, ← f, t)
 
   pub point-other : (eqb (name .tag) 160 && eqb (full .tag) 160) ≡ false → false ≡ httpFullName s h

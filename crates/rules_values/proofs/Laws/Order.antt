@@ -26,12 +26,12 @@ use Rattle.der.proofs.Laws.Header.{head-narrow}
 use Rattle.profiles.specs.Fields.{isServer}
 use Rattle.profiles.specs.declared.fields.Profile.{Profile}
 use Rattle.profiles.specs.declared.fields.Profile.the-variants.{Domain, Organization, Responder}
-use Rattle.certificate.specs.Members.{missing, firstIn}
+use Rattle.der.specs.Members.{missing, firstIn}
 use Rattle.certificate.specs.Slots.{holderAt, valueAt}
 use Rattle.certificate.specs.declared.key.KeyKind.{KeyKind}
 use Rattle.certificate.specs.declared.slots.Value.{Value}
 use Rattle.certificate.proofs.Laws.Inside.{between-head}
-use Rattle.values.specs.Items.{itemsOf}
+use Rattle.der.specs.Members.{membersIn}
 use Rattle.values.specs.Identifiers.{KeyIdentifier, authorityKey, sameKey, otherAuthority, notEmpty, notTwenty}
 use Rattle.values.specs.Usage.{bitAt, usageOf, digitalSignature, unsignedOf, otherBits, otherUsage}
 use Rattle.values.specs.Purposes.{purposeIs, wantedPurpose, noWantedPurpose}
@@ -52,7 +52,7 @@ use Rattle.der.specs.Elements.{anyOf}
 -- ---- order
 
 -- "each" over the items of a value
-items-ordered : (rule to : ℕ) → rule < to → (bad : Head → Bool) (s : List ℕ) (v : Head) → Ordered rule to (each rule bad (itemsOf s v))
+items-ordered : (rule to : ℕ) → rule < to → (bad : Head → Bool) (s : List ℕ) (v : Head) → Ordered rule to (each rule bad (membersIn s v))
 items-ordered rule to l bad s v = each-ordered rule to l bad (children-apart s (v .end) (v .body))
 
 module _ (p : Profile) (s values : List ℕ) where
@@ -172,15 +172,15 @@ module _ (s : List ℕ) (v : Head) where
 
   purpose-judged : (server : Bool) → noWantedPurpose s v server ≡ true → v .sound ≡ true
   unfolding noWantedPurpose
-  purpose-judged server t = and-l (v .sound) (not (anyOf (purposeIs s (wantedPurpose server)) (itemsOf s v))) t
+  purpose-judged server t = and-l (v .sound) (not (anyOf (purposeIs s (wantedPurpose server)) (membersIn s v))) t
 
   below-judged : noneBelow s v ≡ true → v .sound ≡ true
   unfolding noneBelow
-  below-judged t = and-l (v .sound) (not (anyOf (policyBelow s) (itemsOf s v))) t
+  below-judged t = and-l (v .sound) (not (anyOf (policyBelow s) (membersIn s v))) t
 
   policy-judged : (last : ℕ) → lacksPolicy s v last ≡ true → v .sound ≡ true
   unfolding lacksPolicy
-  policy-judged last t = and-l (v .sound) (not (anyOf (policyIs s last) (itemsOf s v))) t
+  policy-judged last t = and-l (v .sound) (not (anyOf (policyIs s last) (membersIn s v))) t
 
   forum-judged : (p : Profile) → lacksForum p s v ≡ true → v .sound ≡ true
   forum-judged Domain t = policy-judged 1 t
@@ -188,10 +188,10 @@ module _ (s : List ℕ) (v : Head) where
   forum-judged Responder t = absurd (false≢true t)
 
   uri-judged : (method : Method) → lacksUri s v method ≡ true → v .sound ≡ true
-  uri-judged method t = and-l (v .sound) (not (anyOf (uriBy s method) (itemsOf s v))) t
+  uri-judged method t = and-l (v .sound) (not (anyOf (uriBy s method) (membersIn s v))) t
 
   http-judged : lacksHttp s v ≡ true → v .sound ≡ true
-  http-judged t = and-l (v .sound) (not (anyOf (httpFullName s) (itemsOf s v))) t
+  http-judged t = and-l (v .sound) (not (anyOf (httpFullName s) (membersIn s v))) t
 
 -- the forms of the rules
 module _ (s : List ℕ) (v : Value) (l : Lies s v) (rule : ℕ) where
@@ -200,7 +200,7 @@ module _ (s : List ℕ) (v : Value) (l : Lies s v) (rule : ℕ) where
   judged-inside true f = noted-inside (length s) rule true (v .holder) (l .starts (f refl)) (l .holder)
   judged-inside false f = none-inside (length s)
 
-  items-inside : (bad : Head → Bool) → Inside (each rule bad (itemsOf s (v .element))) (length s)
+  items-inside : (bad : Head → Bool) → Inside (each rule bad (membersIn s (v .element))) (length s)
   items-inside bad =
       each-inside (length s) rule (v .element .body) bad (between-wider (le-refl (v .element .body)) (l .element) (children-between s (v .element .end) (v .element .body)))
 

@@ -21,7 +21,6 @@ use Rattle.der.proofs.Laws.Walking.{children-chain}
 use Rattle.certificate.specs.Inside.{Between as Lies}
 use Rattle.certificate.proofs.Laws.Inside.{between-head, between-after}
 use Rattle.values.specs.Policies.{qualifiersOf}
-use Rattle.values.proofs.Laws.Items.{second-law}
 use Rattle.items.specs.Lists.{membersOfEach}
 use Rattle.report.specs.declared.sink.Entry.{Entry}
 use Rattle.report.specs.Forms.{each}
@@ -55,7 +54,6 @@ module _ (s : List ℕ) (at end : ℕ) where
 -- the second member of an element, or what stands for it, lies in the element
 second-lies : (s : List ℕ) (h : Head) → h .body ≤ h .end → Lies (h .body) (h .end) (qualifiersOf s h)
 second-lies s h l =
-    rw (← second-law s (h .body) (h .end) (headOf s (h .body) (h .end)) refl)
     (between-after s (h .body) (h .end) (headOf s (h .body) (h .end)) (between-head s (h .body) (h .end) l))
 
 module _ (s : List ℕ) (end : ℕ) where

@@ -6,18 +6,15 @@ use Rattle.attributes.proofs.texts.says_text.Tie as tie
 value-of-requires : tie.Need-value-of-requires
 value-of-requires c κs = search needs
 
-minus-requires : tie.Need-minus-requires
-minus-requires c κs = search needs
-
-equals-requires : tie.Need-equals-requires
-equals-requires c κs = search needs
+contents-are-requires : tie.Need-contents-are-requires
+contents-are-requires c κs = search needs
 
 returns : tie.Need-returns
-returns c = rw (← c .before .before .before .value-of .ensures, c .before .before .if1 .taken, ← c .before .minus .ensures) (c .equals .ensures)
+returns c = rw (← c .before .before .value-of .ensures, c .before .if1 .taken) (c .contents-are .ensures)
 
 returns-2 : tie.Need-returns-2
 returns-2 c = rw (← c .before .value-of .ensures, c .if1 .left)
 
 pub says-text-spec : {M : Type 1} → statement M
 says-text-spec =
-    tie.close (tie.spec value-of-requires minus-requires equals-requires returns returns-2)
+    tie.close (tie.spec value-of-requires contents-are-requires returns returns-2)

@@ -4,8 +4,8 @@ use Rattle.attributes.specs.Types.{arcOf}
 use Rattle.attributes.proofs.types.arc_of.Statement.{statement}
 use Rattle.attributes.proofs.types.arc_of.Tie as tie
 
-head-at-requires : tie.Need-head-at-requires
-head-at-requires c κs = search needs
+first-in-requires : tie.Need-first-in-requires
+first-in-requires c κs = search needs
 
 minus-requires : tie.Need-minus-requires
 minus-requires c κs = search needs
@@ -15,7 +15,7 @@ type-arc-requires c κs = search needs
 
 returns : tie.Need-returns
 unfolding arcOf
-returns c = cc (c .before .before .head-at .ensures, c .before .minus .ensures, c .type-arc .ensures)
+returns c = cc (c .before .before .first-in .ensures, c .before .minus .ensures, c .type-arc .ensures)
 
 pub arc-of-spec : {M : Type 1} → statement M
-arc-of-spec = tie.close (tie.spec head-at-requires minus-requires type-arc-requires returns)
+arc-of-spec = tie.close (tie.spec first-in-requires minus-requires type-arc-requires returns)

@@ -1,7 +1,7 @@
 -- `certificate::slot_of` meets its contract. Assumes nothing.
 use mathlib.Core.Path.{ap, _∙_}
 use borrow.Author.Needs.{needs}
-use Rattle.certificate.specs.Members.{firstIn}
+use Rattle.der.specs.Members.{firstIn}
 use Rattle.certificate.specs.Extensions.{slotFor}
 use Rattle.certificate.proofs.Laws.Members.{contents-read}
 use Rattle.certificate.proofs.extensions.slot_of.Statement.{statement}

@@ -6,7 +6,7 @@ use native.Mathlib.Omega.{arith}
 use lib.ListN.{getD}
 use borrow.Author.Needs.{needs}
 use Rattle.der.specs.Header.{childrenOf}
-use Rattle.certificate.specs.Members.{firstIn}
+use Rattle.der.specs.Members.{firstIn}
 use Rattle.certificate.specs.Slots.{startIn, goodStart, holderAt}
 use Rattle.certificate.specs.Issuer.{keyIdIn}
 use Rattle.certificate.proofs.Laws.Slots.{start-at}

@@ -16,20 +16,18 @@ after-requires c κs = search needs
 after-requires-2 : tie.Need-after-requires-2
 after-requires-2 c κs = search needs
 
-minus-requires : tie.Need-minus-requires
-minus-requires c κs = search needs
-
 kind-of-requires : tie.Need-kind-of-requires
 kind-of-requires c κs = search needs
 
 returns : tie.Need-returns
 returns c =
-    let m = c .before in
-    let b = m .before in
+    let b = c .before in
     let p = b .before in
     let i = p .before in
     let a = i .before in
-    key-law (a .before .before .args .s .now) (a .before .before .args .key) _ _ _ _ _ _ (a .first-in .ensures) (i .first-in2 .ensures) (p .after .ensures) (b .after2 .ensures) (m .minus .ensures) (c .kind-of .ensures)
+    let args = a .before .before .args in
+    key-law (args .s .now) (args .key) _ _ _ _ _
+    (a .first-in .ensures) (i .first-in2 .ensures) (p .after .ensures) (b .after2 .ensures) (c .kind-of .ensures)
 
 pub key-of-spec : {M : Type 1} → statement M
 key-of-spec =
@@ -39,6 +37,5 @@ key-of-spec =
     first-in-requires-2
     after-requires
     after-requires-2
-    minus-requires
     kind-of-requires
     returns)

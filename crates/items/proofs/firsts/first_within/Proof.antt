@@ -50,14 +50,14 @@ loop-again c =
     let a = l .before .before .args in
     l .loop .inv ∙ within-passed (breaks (a .kind) (a .p) (a .mark) (a .s .now)) (a .s .now) (l .loop .at) (a .to) (k .head-at .result) (b .first .result) (k .before .loop-test .taken) (k .head-at .ensures) (b .first .ensures) (c .if1 .left)
 
-empty-at-requires : tie.Need-empty-at-requires Inv-loop μ-loop
-empty-at-requires c κs = tt
+missing-requires : tie.Need-missing-requires Inv-loop μ-loop
+missing-requires c κs = tt
 
 returns-2 : tie.Need-returns-2 Inv-loop μ-loop
 returns-2 c =
     let l = c .before .before in
     let a = l .before .before .args in
-    c .empty-at .ensures ∙ sym (l .loop .inv ∙ within-done (breaks (a .kind) (a .p) (a .mark) (a .s .now)) (a .s .now) (l .loop .at) (a .to) (c .before .loop-test .left))
+    c .missing .ensures ∙ sym (l .loop .inv ∙ within-done (breaks (a .kind) (a .p) (a .mark) (a .s .now)) (a .s .now) (l .loop .at) (a .to) (c .before .loop-test .left))
 
 pub first-within-spec : {M : Type 1} → statement M
 first-within-spec =
@@ -71,5 +71,5 @@ first-within-spec =
     returns
     loop-less
     loop-again
-    empty-at-requires
+    missing-requires
     returns-2)

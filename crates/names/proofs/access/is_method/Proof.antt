@@ -3,9 +3,6 @@ use borrow.Author.Needs.{needs}
 use Rattle.names.proofs.access.is_method.Statement.{statement}
 use Rattle.names.proofs.access.is_method.Tie as tie
 
-minus-requires : tie.Need-minus-requires
-minus-requires c κs = search needs
-
 identifies-requires : tie.Need-identifies-requires
 identifies-requires c κs = search needs
 
@@ -13,4 +10,4 @@ returns : tie.Need-returns
 returns c = cc
 
 pub is-method-spec : {M : Type 1} → statement M
-is-method-spec = tie.close (tie.spec minus-requires identifies-requires returns)
+is-method-spec = tie.close (tie.spec identifies-requires returns)

@@ -3,14 +3,14 @@ use borrow.Author.Needs.{needs}
 use Rattle.names.proofs.access.uri_by.Statement.{statement}
 use Rattle.names.proofs.access.uri_by.Tie as tie
 
-head-at-requires : tie.Need-head-at-requires
-head-at-requires c κs = search needs
+first-in-requires : tie.Need-first-in-requires
+first-in-requires c κs = search needs
 
 is-method-requires : tie.Need-is-method-requires
 is-method-requires c κs = search needs
 
-head-at-requires-2 : tie.Need-head-at-requires-2
-head-at-requires-2 c κs = search needs
+after-requires : tie.Need-after-requires
+after-requires c κs = search needs
 
 is-uri-requires : tie.Need-is-uri-requires
 is-uri-requires c κs = search needs
@@ -21,4 +21,4 @@ returns c = cc
 pub uri-by-spec : {M : Type 1} → statement M
 uri-by-spec =
     tie.close
-    (tie.spec head-at-requires is-method-requires head-at-requires-2 is-uri-requires returns)
+    (tie.spec first-in-requires is-method-requires after-requires is-uri-requires returns)

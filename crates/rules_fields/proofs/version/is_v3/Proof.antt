@@ -7,17 +7,16 @@ use Rattle.rules_fields.proofs.version.is_v3.Tie as tie
 first-in-requires : tie.Need-first-in-requires
 first-in-requires c κs = search needs
 
-minus-requires : tie.Need-minus-requires
-minus-requires c κs = search needs
+slice-aggregate-contents-are : tie.Need-slice-aggregate-contents-are
+slice-aggregate-contents-are c = search needs
 
-slice-aggregate-equals : tie.Need-slice-aggregate-equals
-slice-aggregate-equals c = search needs
-
-equals-requires : tie.Need-equals-requires
-equals-requires c κs = search needs
+contents-are-requires : tie.Need-contents-are-requires
+contents-are-requires c κs = search needs
 
 returns : tie.Need-returns
-returns c = rw (eq-eqb _ _ (c .before .before .before .before .if1 .taken), ← c .before .before .before .first-in .ensures, ← c .before .before .minus .ensures) (c .equals .ensures)
+returns c =
+    let f = c .before .before in
+    rw (eq-eqb _ _ (f .before .if1 .taken), ← f .first-in .ensures) (c .contents-are .ensures)
 
 returns-2 : tie.Need-returns-2
 returns-2 c = rw (ne-eqb _ _ (c .if1 .left))
@@ -27,8 +26,7 @@ is-v3-spec =
     tie.close
     (tie.spec
     first-in-requires
-    minus-requires
-    slice-aggregate-equals
-    equals-requires
+    slice-aggregate-contents-are
+    contents-are-requires
     returns
     returns-2)

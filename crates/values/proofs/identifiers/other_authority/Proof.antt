@@ -5,8 +5,8 @@ use Rattle.values.proofs.Laws.Identifiers.{authority-some, authority-no
 use Rattle.values.proofs.identifiers.other_authority.Statement.{statement}
 use Rattle.values.proofs.identifiers.other_authority.Tie as tie
 
-first-item-requires : tie.Need-first-item-requires
-first-item-requires c κs = search needs
+first-in-requires : tie.Need-first-in-requires
+first-in-requires c κs = search needs
 
 same-contents-requires : tie.Need-same-contents-requires
 same-contents-requires c κs = search needs
@@ -16,7 +16,7 @@ returns c =
     let k = c .before .before in
     let m = k .before in
     let a = m .before .before .before .before .args in
-    authority-some (a .s .now) (a .i .now) (a .v) (a .key) (m .first-item .result) (k .same-contents .result) (m .before .if1 .taken) (m .first-item .ensures) (k .same-contents .ensures)
+    authority-some (a .s .now) (a .i .now) (a .v) (a .key) (m .first-in .result) (k .same-contents .result) (m .before .if1 .taken) (m .first-in .ensures) (k .same-contents .ensures)
 
 returns-2 : tie.Need-returns-2
 returns-2 c =
@@ -25,4 +25,4 @@ returns-2 c =
 
 pub other-authority-spec : {M : Type 1} → statement M
 other-authority-spec =
-    tie.close (tie.spec first-item-requires same-contents-requires returns returns-2)
+    tie.close (tie.spec first-in-requires same-contents-requires returns returns-2)

@@ -12,7 +12,7 @@ any-wanted-requires c κs = search needs
 
 returns : tie.Need-returns
 unfolding noWantedPurpose
-returns c = cc
+returns c = rw (← (c .before .before .wanted-purpose .ensures), c .before .any-wanted .ensures)
 
 pub no-wanted-purpose-spec : {M : Type 1} → statement M
 no-wanted-purpose-spec = tie.close (tie.spec wanted-purpose-requires any-wanted-requires returns)

@@ -4,8 +4,8 @@ use Rattle.values.proofs.Laws.Policies.{policy-law}
 use Rattle.values.proofs.wanted.policy_below.Statement.{statement}
 use Rattle.values.proofs.wanted.policy_below.Tie as tie
 
-first-item-requires : tie.Need-first-item-requires
-first-item-requires c κs = search needs
+first-in-requires : tie.Need-first-in-requires
+first-in-requires c κs = search needs
 
 slice-aggregate-equals : tie.Need-slice-aggregate-equals
 slice-aggregate-equals c = search needs
@@ -21,9 +21,9 @@ returns c =
     let e = c .before in
     let p = e .before .before in
     let a = p .before .before .args in
-    policy-law (a .s .now) (a .h) (p .first-item .result) (c .minus .result) (e .equals .result) (p .first-item .ensures) (c .minus .ensures) (e .equals .ensures)
+    policy-law (a .s .now) (a .h) (p .first-in .result) (c .minus .result) (e .equals .result) (p .first-in .ensures) (c .minus .ensures) (e .equals .ensures)
 
 pub policy-below-spec : {M : Type 1} → statement M
 policy-below-spec =
     tie.close
-    (tie.spec first-item-requires slice-aggregate-equals equals-requires minus-requires returns)
+    (tie.spec first-in-requires slice-aggregate-equals equals-requires minus-requires returns)

@@ -1,7 +1,8 @@
--- `rules_fields::algorithms::same_element` meets its contract. Assumes nothing.
+-- `der::same_element` meets its contract. Assumes nothing.
 use borrow.Author.Needs.{needs}
-use Rattle.rules_fields.proofs.algorithms.same_element.Statement.{statement}
-use Rattle.rules_fields.proofs.algorithms.same_element.Tie as tie
+use Rattle.der.specs.Comparing.{octetsAre}
+use Rattle.der.proofs.comparing.same_element.Statement.{statement}
+use Rattle.der.proofs.comparing.same_element.Tie as tie
 
 minus-requires : tie.Need-minus-requires
 minus-requires c κs = search needs
@@ -13,6 +14,7 @@ same-stretch-requires : tie.Need-same-stretch-requires
 same-stretch-requires c κs = search needs
 
 returns : tie.Need-returns
+unfolding octetsAre
 returns c = cc
 
 pub same-element-spec : {M : Type 1} → statement M

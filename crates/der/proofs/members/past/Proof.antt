@@ -1,9 +1,9 @@
--- `certificate::past` meets its contract. Assumes nothing.
+-- `der::past` meets its contract. Assumes nothing.
 use borrow.Author.Needs.{needs}
 use borrow.Author.Tests.{eq-eqb, ne-eqb}
-use Rattle.certificate.specs.Members.{past}
-use Rattle.certificate.proofs.members.past.Statement.{statement}
-use Rattle.certificate.proofs.members.past.Tie as tie
+use Rattle.der.specs.Members.{past}
+use Rattle.der.proofs.members.past.Statement.{statement}
+use Rattle.der.proofs.members.past.Tie as tie
 
 after-requires : tie.Need-after-requires
 after-requires c κs = search needs

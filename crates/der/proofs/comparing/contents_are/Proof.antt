@@ -1,8 +1,8 @@
--- `values::members::contents_are` meets its contract. Assumes nothing.
+-- `der::contents_are` meets its contract. Assumes nothing.
 use borrow.Author.Needs.{needs}
-use Rattle.values.specs.Items.{contentsAre}
-use Rattle.values.proofs.members.contents_are.Statement.{statement}
-use Rattle.values.proofs.members.contents_are.Tie as tie
+use Rattle.der.specs.Comparing.{contentsAre}
+use Rattle.der.proofs.comparing.contents_are.Statement.{statement}
+use Rattle.der.proofs.comparing.contents_are.Tie as tie
 
 minus-requires : tie.Need-minus-requires
 minus-requires c κs = search needs

@@ -1,7 +1,8 @@
--- `values::members::same_contents` meets its contract. Assumes nothing.
+-- `der::same_contents` meets its contract. Assumes nothing.
 use borrow.Author.Needs.{needs}
-use Rattle.values.proofs.members.same_contents.Statement.{statement}
-use Rattle.values.proofs.members.same_contents.Tie as tie
+use Rattle.der.specs.Comparing.{contentsAre}
+use Rattle.der.proofs.comparing.same_contents.Statement.{statement}
+use Rattle.der.proofs.comparing.same_contents.Tie as tie
 
 minus-requires : tie.Need-minus-requires
 minus-requires c κs = search needs
@@ -13,6 +14,7 @@ same-stretch-requires : tie.Need-same-stretch-requires
 same-stretch-requires c κs = search needs
 
 returns : tie.Need-returns
+unfolding contentsAre
 returns c = cc
 
 pub same-contents-spec : {M : Type 1} → statement M

@@ -1,9 +1,9 @@
--- `certificate::inside_tag` meets its contract. Assumes nothing.
+-- `der::inside_tag` meets its contract. Assumes nothing.
 use borrow.Author.Needs.{needs}
 use borrow.Author.Tests.{eq-eqb, ne-eqb}
-use Rattle.certificate.specs.Members.{insideTag}
-use Rattle.certificate.proofs.members.inside_tag.Statement.{statement}
-use Rattle.certificate.proofs.members.inside_tag.Tie as tie
+use Rattle.der.specs.Members.{insideTag}
+use Rattle.der.proofs.members.inside_tag.Statement.{statement}
+use Rattle.der.proofs.members.inside_tag.Tie as tie
 
 first-in-requires : tie.Need-first-in-requires
 first-in-requires c κs = search needs
