@@ -8,7 +8,7 @@ use Rattle.certificate.specs.declared.extensions.Extension.{Extension}
 use Rattle.octets.specs.Same.{sameBy, exactly}
 use Rattle.der.specs.Header.{childrenOf}
 use Rattle.der.specs.Contents.{contentsOf}
-use Rattle.der.specs.Comparing.{contentsAre, sameContents}
+use Rattle.der.specs.Comparing.{firstIs, sameContents}
 use Rattle.der.specs.declared.header.Head.{Head}
 use Rattle.der.specs.Elements.{anyOf}
 
@@ -82,7 +82,7 @@ slotBy n =
 
 -- "private key usage period 2.5.29.16"
 abbrev pub isPeriod : List ℕ → Head → Bool
-isPeriod s h = contentsAre s (firstIn s h) (certificateExtension 16)
+isPeriod s h = firstIs s h (certificateExtension 16)
 
 -- ---- 361 "each later extension with an identifier seen before"
 

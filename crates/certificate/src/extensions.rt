@@ -75,7 +75,7 @@ pub fn slot_of(s: &[u8], h: Head) -> usize
 pub fn is_period(s: &[u8], h: Head) -> bool
     ensures { λ r. ⌜ r ≡ isPeriod (now (s .entry)) h ⌝ }
 {
-    der::contents_are(s, der::first_in(s, h), b"\x55\x1D\x10")
+    der::first_is(s, h, b"\x55\x1D\x10")
 }
 
 // Whether two Extensions have one identifier.

@@ -5,11 +5,15 @@ use Prim.Native.Nat.{ℕ}
 use Rattle.octets.specs.Same.{sameBy, exactly}
 use Rattle.der.specs.Contents.{contentsOf}
 use Rattle.der.specs.Order.{octetsOf}
+use Rattle.der.specs.Members.{firstIn}
 use Rattle.der.specs.declared.header.Head.{Head}
 
--- the contents of an element are a text; so are its octets, header and contents
+-- the contents of an element are a text; so are those of its first member; so are its octets, header and contents
 unfoldable pub contentsAre : List ℕ → Head → List ℕ → Bool
 contentsAre s h text = sameBy exactly (contentsOf s h) text
+
+abbrev pub firstIs : List ℕ → Head → List ℕ → Bool
+firstIs s h text = contentsAre s (firstIn s h) text
 
 unfoldable pub octetsAre : List ℕ → Head → List ℕ → Bool
 octetsAre s h text = sameBy exactly (octetsOf s h) text

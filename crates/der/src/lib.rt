@@ -8,6 +8,7 @@ mod order;
 mod walk;
 
 pub use comparing::contents_are;
+pub use comparing::first_is;
 pub use comparing::octets_are;
 pub use comparing::same_contents;
 pub use comparing::same_element;

@@ -4,20 +4,19 @@ use mathlib.Core.List.{List, [], _∷_, _++_}
 use Prim.Native.Nat.{ℕ, _-_}
 use lib.Dec.{ltb, eqb}
 use Rattle.der.specs.Contents.{contentsOf}
-use Rattle.der.specs.Comparing.{contentsAre}
+use Rattle.der.specs.Comparing.{firstIs}
 use Rattle.der.specs.Integers.{integerOf}
 use Rattle.der.specs.declared.header.Head.{Head}
 use Rattle.numbers.specs.Numbers.{isPositive}
 use Rattle.profiles.specs.Fields.{isServer}
 use Rattle.profiles.specs.declared.fields.Profile.{Profile}
-use Rattle.der.specs.Members.{firstIn}
 use Rattle.certificate.specs.declared.fields.Certificate.{Certificate}
 use Rattle.report.specs.Entries.{noted}
 use Rattle.report.specs.declared.sink.Entry.{Entry}
 
 -- the version stands in [0], and 2 says v3 (RFC 5280, 4.1.2.1)
 abbrev pub isV3 : List ℕ → Head → Bool
-isV3 s version = eqb (version .tag) 0xA0 && contentsAre s (firstIn s version) (2 ∷ [])
+isV3 s version = eqb (version .tag) 0xA0 && firstIs s version (2 ∷ [])
 
 abbrev pub versionPlace : Head → Head → Head
 versionPlace version tbs = cond (eqb (version .tag) 0xA0) version tbs

@@ -12,7 +12,7 @@ fn is_v3(s: &[u8], version: Head) -> bool
     ensures { λ r. ⌜ r ≡ isV3 (now (s .entry)) version ⌝ }
 {
     if version.tag == 0xA0 {
-        return der::contents_are(s, der::first_in(s, version), b"\x02");
+        return der::first_is(s, version, b"\x02");
     }
     false
 }

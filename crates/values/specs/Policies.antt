@@ -7,7 +7,7 @@ use Prim.Native.Nat.{ℕ}
 use lib.Dec.{eqb}
 use Rattle.der.specs.Contents.{contentsOf}
 use Rattle.der.specs.Members.{membersIn, firstIn, secondIn}
-use Rattle.der.specs.Comparing.{contentsAre}
+use Rattle.der.specs.Comparing.{firstIs}
 use Rattle.der.specs.declared.header.Head.{Head}
 use Rattle.der.specs.Elements.{anyOf}
 
@@ -32,7 +32,7 @@ policyBelow s h = isBelow federalArc (contentsOf s (firstIn s h))
 
 -- whether it names this policy of the Forum
 abbrev pub policyIs : List ℕ → ℕ → Head → Bool
-policyIs s last h = contentsAre s (firstIn s h) (forumPolicy last)
+policyIs s last h = firstIs s h (forumPolicy last)
 
 -- 409 "a policy below 2.16.840.1.101.3.2.1.3" is broken: there is none
 unfoldable pub noneBelow : List ℕ → Head → Bool
@@ -52,4 +52,4 @@ practiceStatement = 0x2B ∷ 6 ∷ 1 ∷ 5 ∷ 5 ∷ 7 ∷ 2 ∷ 1 ∷ []
 
 -- 411 "each qualifier other than 1.3.6.1.5.5.7.2.1": the PolicyQualifierInfo h is one
 unfoldable pub otherQualifier : List ℕ → Head → Bool
-otherQualifier s h = not (contentsAre s (firstIn s h) practiceStatement)
+otherQualifier s h = not (firstIs s h practiceStatement)

@@ -30,5 +30,5 @@ pub fn qualifiers_of(s: &[u8], policy: Head) -> Head
 pub fn other_qualifier(s: &[u8], h: Head) -> bool
     ensures { λ r. ⌜ r ≡ otherQualifier (now (s .entry)) h ⌝ }
 {
-    !der::contents_are(s, der::first_in(s, h), b"\x2b\x06\x01\x05\x05\x07\x02\x01")
+    !der::first_is(s, h, b"\x2b\x06\x01\x05\x05\x07\x02\x01")
 }

@@ -25,7 +25,7 @@ fn policy_is(s: &[u8], last: u8, h: Head) -> bool
     ensures { λ r. ⌜ r ≡ policyIs (now (s .entry)) last h ⌝ }
 {
     let policy = [0x67, 0x81, 0x0c, 1, 2, last];
-    der::contents_are(s, der::first_in(s, h), &policy)
+    der::first_is(s, h, &policy)
 }
 
 fn policy_below(s: &[u8], h: Head) -> bool
