@@ -1,4 +1,5 @@
 -- Laws of the definitions, by file.
+pub mod Length
 pub mod Header
 pub mod Contents
 pub mod Order

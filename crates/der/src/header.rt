@@ -64,12 +64,20 @@ fn more_octets(first: u8) -> u8
     if first < 128 { 0 } else { first - 128 }
 }
 
-// The length that is written after the identifier octet at `at`, whose first octet is `first`.
+// The length that is written after the identifier octet at `at`, whose first octet is `first`. Within a side a length
+// takes one octet more or two, so these are read apart from the loop.
 fn length_at(s: &[u8], at: usize, first: u8) -> usize
     ensures { λ r. ⌜ r ≡ min (lengthBy (now (s .entry)) at first) largest ⌝ }
 {
     if first < 128 {
         return octets::wide(first);
+    }
+    if first == 129 {
+        return octets::wide(octets::octet_past(s, at, 2));
+    }
+    if first == 130 {
+        let high = octets::wide(octets::octet_past(s, at, 2));
+        return 256 * high + octets::wide(octets::octet_past(s, at, 3));
     }
     octets::number(s, at, 2, more_octets(first))
 }
