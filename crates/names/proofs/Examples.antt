@@ -50,7 +50,8 @@ pub neither : map (λ (name : List ℕ). isPlain (hostOf name)) others ≡ map (
 unfolding labelOctets labelsFrom labelsOk
 neither = refl
 
-pub http : map (λ (text : List ℕ). beginsHttp text) (word "http://a" ∷ word "HttP://a" ∷ word "http://" ∷ word "https://a" ∷ word "ahttp://" ∷ []) ≡ (true ∷ true ∷ false ∷ false ∷ false ∷ [])
+pub http : map (λ (text : List ℕ). beginsHttp text) (word "http://a" ∷ word "HttP://a" ∷ word "http://" ∷ word "https://a" ∷ word
+    "ahttp://" ∷ []) ≡ (true ∷ true ∷ false ∷ false ∷ false ∷ [])
 unfolding sameBy
 http = refl
 
@@ -59,6 +60,8 @@ abbrev point : ℕ → List ℕ
 point form = 48 ∷ 14 ∷ 160 ∷ 12 ∷ form ∷ 10 ∷ 134 ∷ 8 ∷ word "http://a"
 
 -- a full name, and a relative one; neither is restricted, and a point of reasons alone is
-pub points : (httpFullName (point 160) (headOf (point 160) 0 16) ∷ httpFullName (point 161) (headOf (point 161) 0 16) ∷ isRestricted (point 160) (headOf (point 160) 0 16) ∷ isRestricted (48 ∷ 4 ∷ 129 ∷ 2 ∷ 7 ∷ 128 ∷ []) (headOf (48 ∷ 4 ∷ 129 ∷ 2 ∷ 7 ∷ 128 ∷ []) 0 6) ∷ []) ≡ (true ∷ false ∷ false ∷ true ∷ [])
+pub points : (httpFullName (point 160) (headOf (point 160) 0 16) ∷ httpFullName (point 161) (headOf (point 161) 0 16) ∷ isRestricted
+    (point 160) (headOf (point 160) 0 16) ∷ isRestricted (48 ∷ 4 ∷ 129 ∷ 2 ∷ 7 ∷ 128 ∷ []) (headOf (48 ∷ 4 ∷ 129 ∷ 2 ∷ 7 ∷ 128 ∷ []) 0 6) ∷ [])
+    ≡ (true ∷ false ∷ false ∷ true ∷ [])
 unfolding anyOf headOf childrenOf childrenBy octetsFrom sameBy
 points = refl

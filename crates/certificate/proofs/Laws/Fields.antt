@@ -70,7 +70,23 @@ module _ (s : List ℕ) (whole tbs version serial inner issuer period before the
   times-is : times ≡ validityOf s (notBeforeIn s (periodIn s (tbsOf s))) (notAfterIn s (periodIn s (tbsOf s)))
   times-is = times-read ∙ (λ i. validityOf s (before-is i) (then-is i))
 
-  pub read-law : _≡_ {A = Certificate} (record { tbs = tbs; version = version; serial = serial; inner = inner; issuer = issuer; period = period; «not_before» = before; «not_after» = then; subject = subject; key = key; extensions = list; outer = outer; validity = times }) (certificateOf s)
+  pub read-law : _≡_ {A = Certificate} (record {
+    tbs = tbs;
+    version = version;
+    serial = serial;
+    inner = inner;
+    issuer = issuer;
+    period =
+        period;
+    «not_before» = before;
+    «not_after» = then;
+    subject = subject;
+    key = key;
+    extensions = list;
+    outer = outer;
+    validity = times;
+  })
+      (certificateOf s)
   unfolding certificateOf
   read-law i =
       record {

@@ -62,10 +62,14 @@ between-head s at end l = go (ltb at end) refl
 
 module _ (s : List ℕ) (from to : ℕ) (h : Head) (k : Between from to h) where
   pub between-first : Between from to (firstIn s h)
-  between-first = between-wider from (h .body) (h .end) to (firstIn s h) (omega (arith, k .starts, k .holds)) (k .ends) (between-head s (h .body) (h .end) (k .forward))
+  between-first =
+      between-wider from (h .body) (h .end) to (firstIn s h) (omega (arith, k .starts, k .holds)) (k .ends)
+      (between-head s (h .body) (h .end) (k .forward))
 
   pub between-after : Between from to (after s h to)
-  between-after = between-wider from (h .end) to to (after s h to) (omega (arith, k .starts, k .holds, k .forward)) (omega arith) (between-head s (h .end) to (k .ends))
+  between-after =
+      between-wider from (h .end) to to (after s h to) (omega (arith, k .starts, k .holds, k .forward)) (omega arith)
+      (between-head s (h .end) to (k .ends))
 
   pub between-past : (tag : ℕ) → Between from to (past tag s h to)
   unfolding past
@@ -250,7 +254,9 @@ module _ (s : List ℕ) (list : Head) (k : Inside s list) where
     where
       go : (t : Bool) → ltb slot 11 ≡ t → getD (startsOf s (childrenOf s (list .body) (list .end))) slot 0 ≤ list .end
       go true e = rw (start-at s (childrenOf s (list .body) (list .end)) slot (ltb-true slot 11 e)) (start-below s slot (members-between s list k))
-      go false e = rw (List·getD-eq-default (startsOf s (childrenOf s (list .body) (list .end))) 0 (start-past s (childrenOf s (list .body) (list .end)) slot (ltb-false slot 11 e))) (omega arith)
+      go false e =
+          rw (List·getD-eq-default (startsOf s (childrenOf s (list .body) (list .end))) 0
+          (start-past s (childrenOf s (list .body) (list .end)) slot (ltb-false slot 11 e))) (omega arith)
 
   value-below : (slot : ℕ) → goodStart s (list .end) slot (startIn s (childrenOf s (list .body) (list .end)) slot) ≤ length s
   value-below slot = good-below s (list .end) slot _ (k .ends) (start-below s slot (members-between s list k))
@@ -259,8 +265,15 @@ module _ (s : List ℕ) (list : Head) (k : Inside s list) where
   listed-below slot = go (ltb slot 11) refl
     where
       go : (t : Bool) → ltb slot 11 ≡ t → getD (valuesOf s (startsOf s (childrenOf s (list .body) (list .end))) (list .end)) slot 0 ≤ length s
-      go true e = let h = ltb-true slot 11 e in rw (value-start s (startsOf s (childrenOf s (list .body) (list .end))) (list .end) slot h, start-at s (childrenOf s (list .body) (list .end)) slot h) (value-below slot)
-      go false e = rw (List·getD-eq-default (valuesOf s (startsOf s (childrenOf s (list .body) (list .end))) (list .end)) 0 (value-past s (startsOf s (childrenOf s (list .body) (list .end))) (list .end) slot (ltb-false slot 11 e))) (omega arith)
+      go true e =
+          let h = ltb-true slot 11 e in rw (
+            value-start s (startsOf s (childrenOf s (list .body) (list .end))) (list .end) slot h,
+            start-at
+                s (childrenOf s (list .body) (list .end)) slot h,
+          ) (value-below slot)
+      go false e =
+          rw (List·getD-eq-default (valuesOf s (startsOf s (childrenOf s (list .body) (list .end))) (list .end)) 0
+          (value-past s (startsOf s (childrenOf s (list .body) (list .end))) (list .end) slot (ltb-false slot 11 e))) (omega arith)
 
   pub value-inside : (slot : ℕ) → ValueInside s (valueAt s (valuesOf s (startsOf s (childrenOf s (list .body) (list .end))) (list .end)) slot)
   unfolding valueAt

@@ -50,21 +50,24 @@ module _ (s : List ℕ) where
       λ j. record { place = h; critical = eqb (c j .tag) 0x01; value = value-is j }
 
   -- past the two unique identifiers
-  pub list-law : (key one two three list : Head) (end : ℕ) → one ≡ after s key end → two ≡ past 0x81 s one end → three ≡ past 0x82 s two end → list ≡ insideTag 0xA3 s three end → list ≡ listAfter s key end
+  pub list-law : (key one two three list : Head) (end : ℕ) → one ≡ after s key end → two ≡ past 0x81 s one end → three ≡ past 0x82 s two end
+      → list ≡ insideTag 0xA3 s three end → list ≡ listAfter s key end
   unfolding listAfter
   list-law key one two three list end a b c d =
       let two-is : two ≡ past 0x81 s (after s key end) end = b ∙ (λ j. past 0x81 s (a j) end) in
       let three-is : three ≡ past 0x82 s (past 0x81 s (after s key end) end) end = c ∙ (λ j. past 0x82 s (two-is j) end) in
       d ∙ (λ j. insideTag 0xA3 s (three-is j) end)
 
-  pub value-law : (values : List ℕ) (slot at : ℕ) (holder element : Head) → at ≡ getD values slot 0 → holder ≡ holderAt s at → element ≡ firstIn s holder → _≡_ {A = Value} (record { holder = holder; element = element }) (valueAt s values slot)
+  pub value-law : (values : List ℕ) (slot at : ℕ) (holder element : Head) → at ≡ getD values slot 0 → holder ≡ holderAt s at
+      → element ≡ firstIn s holder → _≡_ {A = Value} (record { holder = holder; element = element }) (valueAt s values slot)
   unfolding valueAt
   value-law values slot at holder element a h e =
       let holder-is : holder ≡ holderAt s (getD values slot 0) = h ∙ (λ j. holderAt s (a j)) in
       let element-is : element ≡ firstIn s (holderAt s (getD values slot 0)) = e ∙ (λ j. firstIn s (holder-is j)) in
       λ j. record { holder = holder-is j; element = element-is j }
 
-  pub issuer-law : (c : Certificate) (id : Head) → c ≡ certificateOf s → id ≡ keyIdIn s (c .extensions) → _≡_ {A = Issuer} (record { name = c .subject; «key_id» = id }) (issuerOf s)
+  pub issuer-law : (c : Certificate) (id : Head) → c ≡ certificateOf s → id ≡ keyIdIn s (c .extensions)
+      → _≡_ {A = Issuer} (record { name = c .subject; «key_id» = id }) (issuerOf s)
   unfolding issuerOf
   issuer-law c id p q =
       let id-is : id ≡ keyIdIn s (certificateOf s .extensions) = q ∙ (λ j. keyIdIn s (p j .extensions)) in

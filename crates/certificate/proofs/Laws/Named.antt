@@ -83,7 +83,8 @@ module _ (s : List ℕ) (end : ℕ) where
     where
       go : (t : Bool) → ltb (k .place) end ≡ t → h ≡ brokenHead (h .at) end
       go true l =
-          let e : headOf s (k .place) end ∷ childrenOf s (headOf s (k .place) end .end) end ≡ [] = sym (children-next s (k .place) end (ltb-true (k .place) end l)) ∙ k .members in
+          let e : headOf s (k .place) end ∷ childrenOf s (headOf s (k .place) end .end) end ≡ [] = sym
+          (children-next s (k .place) end (ltb-true (k .place) end l)) ∙ k .members in
           let z : _≡_ {A = ℕ} 0 1 = cc e in
           absurd (omega arith)
       go false l =
@@ -107,14 +108,19 @@ module _ (s : List ℕ) (end : ℕ) where
   stands-still tag h xs t k = rw (ne-eqb (h .tag) tag t) k
 
   -- past an optional field, where what follows has another tag
-  pub stands-optional : (f : Form) (tag : ℕ) (h : Head) (front rest : List Head) → ((x : Head) → fits f s x ≡ Fits → x .tag ≡ tag) → ((x : Head) → Stands s end x rest → x .tag ≡ tag → ⊥) → Optional f s front → Stands s end h (front ++ rest) → Stands s end (past tag s h end) rest
+  pub stands-optional : (f : Form) (tag : ℕ) (h : Head) (front rest : List Head) → ((x : Head) → fits f s x ≡ Fits → x .tag ≡ tag)
+      → ((x : Head) → Stands s end x rest → x .tag ≡ tag → ⊥) → Optional f s front → Stands s end h (front ++ rest)
+      → Stands s end (past tag s h end) rest
   stands-optional f tag h [] rest fit other absent k = stands-still tag h rest (other h k) k
   stands-optional f tag h (x ∷ []) rest fit other (present e) k = stands-past tag h x rest (fit x e) k
 
   -- what stands there has the optional field's tag, or the tag of what follows: so not a third one
-  optional-other : (f : Form) (tag third : ℕ) (front rest : List Head) → ((x : Head) → fits f s x ≡ Fits → x .tag ≡ tag) → (tag ≡ third → ⊥) → ((x : Head) → Stands s end x rest → x .tag ≡ third → ⊥) → Optional f s front → (x : Head) → Stands s end x (front ++ rest) → x .tag ≡ third → ⊥
+  optional-other : (f : Form) (tag third : ℕ) (front rest : List Head) → ((x : Head) → fits f s x ≡ Fits → x .tag ≡ tag) → (tag ≡ third → ⊥)
+      → ((x : Head) → Stands s end x rest → x .tag ≡ third → ⊥) → Optional f s front → (x : Head) → Stands s end x (front ++ rest)
+      → x .tag ≡ third → ⊥
   optional-other f tag third [] rest fit apart other absent x k t = other x k t
-  optional-other f tag third (y ∷ []) rest fit apart other (present e) x k t = apart (sym (fit y e) ∙ (ap (λ (h : Head). h .tag) (sym (stands-here x y rest k)) ∙ t))
+  optional-other f tag third (y ∷ []) rest fit apart other (present e) x k t =
+      apart (sym (fit y e) ∙ (ap (λ (h : Head). h .tag) (sym (stands-here x y rest k)) ∙ t))
 
 -- ---- times
 
@@ -130,9 +136,16 @@ time-named s h e = is-real (timeOf (h .tag) (contentsOf s h)) (by-tag (eqb 23 (h
     passed tag true e = refl
     passed tag false e = cc
 
-    by-tag : (a b : Bool) → eqb 23 (h .tag) ≡ a → eqb 24 (h .tag) ≡ b → cond a (cond (isReal (timeOf 23 (contentsOf s h))) Fits (Wrong (h .at))) (cond b (cond (isReal (timeOf 24 (contentsOf s h))) Fits (Wrong (h .at))) Stranger) ≡ Fits → isReal (timeOf (h .tag) (contentsOf s h)) ≡ true
-    by-tag true b p q e = ap (λ (t : ℕ). isReal (timeOf t (contentsOf s h))) (sym (eqb-true 23 (h .tag) p)) ∙ passed (h .at) (isReal (timeOf 23 (contentsOf s h))) e
-    by-tag false true p q e = ap (λ (t : ℕ). isReal (timeOf t (contentsOf s h))) (sym (eqb-true 24 (h .tag) q)) ∙ passed (h .at) (isReal (timeOf 24 (contentsOf s h))) e
+    by-tag : (a b : Bool) → eqb 23 (h .tag) ≡ a → eqb 24 (h .tag) ≡ b
+        → cond a (cond (isReal (timeOf 23 (contentsOf s h))) Fits (Wrong (h .at)))
+        (cond b (cond (isReal (timeOf 24 (contentsOf s h))) Fits (Wrong (h .at))) Stranger) ≡ Fits
+        → isReal (timeOf (h .tag) (contentsOf s h)) ≡ true
+    by-tag true b p q e =
+        ap (λ (t : ℕ). isReal (timeOf t (contentsOf s h))) (sym (eqb-true 23 (h .tag) p)) ∙ passed (h .at)
+        (isReal (timeOf 23 (contentsOf s h))) e
+    by-tag false true p q e =
+        ap (λ (t : ℕ). isReal (timeOf t (contentsOf s h))) (sym (eqb-true 24 (h .tag) q)) ∙ passed (h .at)
+        (isReal (timeOf 24 (contentsOf s h))) e
     by-tag false false p q e = cc
 
 -- ---- the two times of a Validity
@@ -157,7 +170,8 @@ times-named s period e =
 
 -- ---- the extension list
 
-extensions-named : (s : List ℕ) (end : ℕ) (x : Head) (extended : List Head) → Optional (explicit 3 extensions) s extended → Stands s end x extended → ExtensionsNamed s (insideTag 0xA3 s x end) end extended
+extensions-named : (s : List ℕ) (end : ℕ) (x : Head) (extended : List Head) → Optional (explicit 3 extensions) s extended
+    → Stands s end x extended → ExtensionsNamed s (insideTag 0xA3 s x end) end extended
 unfolding insideTag
 extensions-named s end x [] absent k = let z = stands-none s end x k in rw z (without refl)
 extensions-named s end x (h ∷ []) (present e) k =
@@ -200,19 +214,25 @@ module _ (s : List ℕ) (e : certificateVerdict s ≡ Fits) where
   abbrev end : ℕ
   end = tbsOf s .end
 
-  version-stands : Stands s end (versionIn s (tbsOf s)) (fields .versions ++ (fields .serial ∷ fields .algorithm ∷ fields .issuer ∷ fields .period ∷ fields .subject ∷ fields .key ∷ later))
+  version-stands : Stands s end (versionIn s (tbsOf s)) (fields .versions ++
+      (fields .serial ∷ fields .algorithm ∷ fields .issuer ∷ fields .period ∷ fields .subject ∷ fields .key ∷ later))
   unfolding versionIn
   version-stands = record { place = tbsOf s .body; is = refl; members = (λ i. childrenOf s (tbs-named i .body) (tbs-named i .end)) ∙ fields .is }
 
   -- the serial number is no [0]
-  no-version : (x : Head) → Stands s end x (fields .serial ∷ fields .algorithm ∷ fields .issuer ∷ fields .period ∷ fields .subject ∷ fields .key ∷ later) → x .tag ≡ 0xA0 → ⊥
+  no-version : (x : Head)
+      → Stands s end x (fields .serial ∷ fields .algorithm ∷ fields .issuer ∷ fields .period ∷ fields .subject ∷ fields .key ∷ later)
+      → x .tag ≡ 0xA0 → ⊥
   no-version x k t =
       let two : x .tag ≡ 0x02 = ap (λ (y : Head). y .tag) (stands-here s end x _ _ k) ∙ fit-tag 0x02 _ s (fields .serial) refl (fields .serial-fits) in
       omega (arith, two, t)
 
-  serial-stands : Stands s end (serialIn s (tbsOf s)) (fields .serial ∷ fields .algorithm ∷ fields .issuer ∷ fields .period ∷ fields .subject ∷ fields .key ∷ later)
+  serial-stands : Stands s end (serialIn s (tbsOf s)) (fields .serial ∷ fields .algorithm ∷ fields .issuer ∷ fields .period ∷ fields
+      .subject ∷ fields .key ∷ later)
   unfolding serialIn
-  serial-stands = stands-optional s end (explicit 0 version) 0xA0 _ (fields .versions) _ (λ x f. fit-tag 0xA0 _ s x refl f) no-version (fields .versions-fit) version-stands
+  serial-stands =
+      stands-optional s end (explicit 0 version) 0xA0 _ (fields .versions) _ (λ x f. fit-tag 0xA0 _ s x refl f) no-version
+      (fields .versions-fit) version-stands
 
   inner-stands : Stands s end (innerIn s (tbsOf s)) (fields .algorithm ∷ fields .issuer ∷ fields .period ∷ fields .subject ∷ fields .key ∷ later)
   unfolding innerIn
@@ -244,8 +264,12 @@ module _ (s : List ℕ) (e : certificateVerdict s ≡ Fits) where
 
   extended-stands : Stands s end (extendedAfter s (keyIn s (tbsOf s)) end) (fields .extended)
   extended-stands =
-      stands-optional s end (free 2) 0x82 _ (fields .subject-id) _ (λ x f. fit-tag 0x82 _ s x refl f) (no-extended 0x82 (λ p. omega (arith, p)) (λ p. omega (arith, p))) (fields .subject-id-fits)
-      (stands-optional s end (free 1) 0x81 _ (fields .issuer-id) _ (λ x f. fit-tag 0x81 _ s x refl f) (optional-other s end (free 2) 0x82 0x81 (fields .subject-id) (fields .extended) (λ x f. fit-tag 0x82 _ s x refl f) (λ p. omega (arith, p)) (no-extended 0x81 (λ p. omega (arith, p)) (λ p. omega (arith, p))) (fields .subject-id-fits)) (fields .issuer-id-fits)
+      stands-optional s end (free 2) 0x82 _ (fields .subject-id) _ (λ x f. fit-tag 0x82 _ s x refl f)
+      (no-extended 0x82 (λ p. omega (arith, p)) (λ p. omega (arith, p))) (fields .subject-id-fits)
+      (stands-optional s end (free 1) 0x81 _ (fields .issuer-id) _ (λ x f. fit-tag 0x81 _ s x refl f)
+      (optional-other s end (free 2) 0x82 0x81 (fields .subject-id) (fields .extended) (λ x f. fit-tag 0x82 _ s x refl f)
+      (λ p. omega (arith, p)) (no-extended 0x81 (λ p. omega (arith, p)) (λ p. omega (arith, p))) (fields .subject-id-fits))
+      (fields .issuer-id-fits)
       (stands-after s end _ _ _ key-stands))
 
   list-named : ExtensionsNamed s (extensionsIn s (tbsOf s)) end (fields .extended)
@@ -261,7 +285,10 @@ module _ (s : List ℕ) (e : certificateVerdict s ≡ Fits) where
   version-named : VersionNamed (versionIn s (tbsOf s)) (serialIn s (tbsOf s)) (fields .versions)
   version-named = go (fields .versions) (fields .versions-fit) version-stands
     where
-      go : (hs : List Head) → Optional (explicit 0 version) s hs → Stands s end (versionIn s (tbsOf s)) (hs ++ (fields .serial ∷ fields .algorithm ∷ fields .issuer ∷ fields .period ∷ fields .subject ∷ fields .key ∷ later)) → VersionNamed (versionIn s (tbsOf s)) (serialIn s (tbsOf s)) hs
+      go : (hs : List Head) → Optional (explicit 0 version) s hs
+          → Stands s end (versionIn s (tbsOf s)) (hs ++ (fields .serial ∷ fields .algorithm ∷ fields .issuer ∷ fields .period ∷ fields
+          .subject ∷ fields .key ∷ later))
+          → VersionNamed (versionIn s (tbsOf s)) (serialIn s (tbsOf s)) hs
       go [] absent k = unwritten (stands-here s end _ _ _ k ∙ sym serial-named)
       go (h ∷ []) (present f) k = written (stands-here s end _ _ _ k)
 

@@ -37,7 +37,8 @@ use Rattle.certificate.proofs.Laws.Named.{named, fit-tag, Stands, stand
 tag-of : (x y : Head) (t : ℕ) → x ≡ y → y .tag ≡ t → x .tag ≡ t
 tag-of x y t p q = ap (λ (h : Head). h .tag) p ∙ q
 
-critical-named : (s : List ℕ) (end : ℕ) (second value : Head) (front : List Head) → Optional booleanTrue s front → value .tag ≡ 0x04 → Stands s end second (front ++ (value ∷ [])) → CriticalNamed (eqb (second .tag) 0x01) front
+critical-named : (s : List ℕ) (end : ℕ) (second value : Head) (front : List Head) → Optional booleanTrue s front → value .tag ≡ 0x04
+    → Stands s end second (front ++ (value ∷ [])) → CriticalNamed (eqb (second .tag) 0x01) front
 critical-named s end second value [] absent v k =
     let four = tag-of second value 0x04 (stands-here s end second value [] k) v in
     rw four unmarked
@@ -54,11 +55,14 @@ extension-named s h e =
     let v = one-fits _ _ s (h .at) _ (b .more) in
     let d = done-fits s (h .at) _ (v .more) in
     let last : b .rest ≡ v .first ∷ [] = cc (v .is, d) in
-    let all : childrenOf s (h .body) (h .end) ≡ a .first ∷ (b .front ++ (v .first ∷ [])) = a .is ∙ ap (λ (l : List Head). a .first ∷ l) (b .is ∙ ap (λ (l : List Head). b .front ++ l) last) in
+    let all : childrenOf s (h .body) (h .end) ≡ a .first ∷ (b .front ++ (v .first ∷ [])) = a .is ∙ ap (λ (l : List Head). a .first ∷ l)
+    (b .is ∙ ap (λ (l : List Head). b .front ++ l) last) in
     let first : Stands s (h .end) (firstIn s h) (a .first ∷ (b .front ++ (v .first ∷ []))) = record { place = h .body; is = refl; members = all } in
     let second = stands-after s (h .end) _ _ _ first in
     let four = fit-tag 0x04 _ s (v .first) refl (v .fit) in
-    let third = stands-optional s (h .end) booleanTrue 0x01 _ (b .front) (v .first ∷ []) (λ x f. fit-tag 0x01 _ s x refl f) (λ x st t. let other = tag-of x (v .first) 0x04 (stands-here s (h .end) x (v .first) [] st) four in omega (arith, other, t)) (b .fit) second in
+    let third = stands-optional s (h .end) booleanTrue 0x01 _ (b .front) (v .first ∷ []) (λ x f. fit-tag 0x01 _ s x refl f)
+    (λ x st t. let other = tag-of x (v .first) 0x04 (stands-here s (h .end) x (v .first) [] st) four in omega (arith, other, t)) (b .fit)
+    second in
     let one-is = stands-here s (h .end) _ _ _ first in
     let value-is = stands-here s (h .end) _ _ _ third in
     record {
@@ -76,7 +80,8 @@ unfolding follows
 all-named s o [] e = none
 all-named s o (h ∷ hs) e = go (fits extension s h) refl e (all-named s o hs)
   where
-    go : (v : Verdict) → fits extension s h ≡ v → after v (follows done s o (h ∷ hs)) (follows (many extension done) s o hs) ≡ Fits → (follows (many extension done) s o hs ≡ Fits → AllNamed s hs) → AllNamed s (h ∷ hs)
+    go : (v : Verdict) → fits extension s h ≡ v → after v (follows done s o (h ∷ hs)) (follows (many extension done) s o hs) ≡ Fits
+        → (follows (many extension done) s o hs ≡ Fits → AllNamed s hs) → AllNamed s (h ∷ hs)
     go Stranger f e rest = let z : _≡_ {A = ℕ} 0 1 = cc in absurd (omega arith)
     go Fits f e rest = more (extension-named s h f) (rest e)
     go (Wrong p) f e rest = let z : _≡_ {A = ℕ} 0 1 = cc in absurd (omega arith)
@@ -90,7 +95,8 @@ list-named s list e =
 
 -- ---- a SubjectPublicKeyInfo
 
-parameters-named : (s : List ℕ) (end : ℕ) (parameters : Head) (extra : List Head) (f : Form) → Optional f s extra → Stands s end parameters extra → ParametersNamed parameters extra
+parameters-named : (s : List ℕ) (end : ℕ) (parameters : Head) (extra : List Head) (f : Form) → Optional f s extra
+    → Stands s end parameters extra → ParametersNamed parameters extra
 parameters-named s end parameters [] f absent k = lacking (stands-unsound s end parameters k)
 parameters-named s end parameters (h ∷ []) f (present e) k = given (stands-here s end parameters h [] k)
 
@@ -109,8 +115,11 @@ key-named s key e =
     let o = one-fits _ _ s (a .first .at) _ m in
     let p = opt-fits _ _ s (a .first .at) _ (o .more) in
     let z = done-fits s (a .first .at) _ (p .more) in
-    let held : childrenOf s (firstIn s key .body) (firstIn s key .end) ≡ o .first ∷ p .front = (λ i. childrenOf s (algorithm i .body) (algorithm i .end)) ∙ (o .is ∙ ap (λ (l : List Head). o .first ∷ l) (p .is ∙ (ap (λ (l : List Head). p .front ++ l) z ∙ append-nil (p .front)))) in
-    let inside : Stands s (firstIn s key .end) (firstIn s (firstIn s key)) (o .first ∷ p .front) = record { place = firstIn s key .body; is = refl; members = held } in
+    let held : childrenOf s (firstIn s key .body) (firstIn s key .end) ≡ o .first ∷ p .front =
+    (λ i. childrenOf s (algorithm i .body) (algorithm i .end)) ∙ (o .is ∙ ap (λ (l : List Head). o .first ∷ l)
+    (p .is ∙ (ap (λ (l : List Head). p .front ++ l) z ∙ append-nil (p .front)))) in
+    let inside : Stands s (firstIn s key .end) (firstIn s (firstIn s key)) (o .first ∷ p .front) = record
+    { place = firstIn s key .body; is = refl; members = held } in
     let identifier = stands-here s (firstIn s key .end) _ _ _ inside in
     record {
       extra = p .front;
@@ -130,6 +139,7 @@ module _ (s : List ℕ) (e : certificateVerdict s ≡ Fits) where
   pub certificate-extensions-named : AllNamed s (childrenOf s (certificateOf s .extensions .body) (certificateOf s .extensions .end))
   certificate-extensions-named = go (named s e .fields .extended) (named s e .extensions)
     where
-      go : (hs : List Head) → ExtensionsNamed s (certificateOf s .extensions) (certificateOf s .tbs .end) hs → AllNamed s (childrenOf s (certificateOf s .extensions .body) (certificateOf s .extensions .end))
+      go : (hs : List Head) → ExtensionsNamed s (certificateOf s .extensions) (certificateOf s .tbs .end) hs
+          → AllNamed s (childrenOf s (certificateOf s .extensions .body) (certificateOf s .extensions .end))
       go [] (without m) = rw (m, children-done s (certificateOf s .tbs .end) (certificateOf s .tbs .end) (omega arith)) none
       go (h ∷ []) (listed k f) = list-named s (certificateOf s .extensions) f

@@ -48,7 +48,9 @@ by-slot-long : (f : ℕ → ℕ) → length (bySlot f) ≡ 11
 by-slot-long f = length-map (numbersFrom 0 11) f ∙ numbers-long 0 11
 
 pub by-slot-is : (f : ℕ → ℕ) (xs : List ℕ) → length xs ≡ 11 → ((slot : ℕ) → slot < 11 → getD xs slot 0 ≡ f slot) → xs ≡ bySlot f
-by-slot-is f xs l each = ext-getD 0 xs (bySlot f) (l ∙ sym (by-slot-long f)) (λ i h. let below : i < 11 = omega (arith, l) in each i below ∙ sym (by-slot-at f i below))
+by-slot-is f xs l each =
+    ext-getD 0 xs (bySlot f) (l ∙ sym (by-slot-long f)) (λ i h. let below : i < 11 = omega (arith, l) in each i below ∙ sym
+    (by-slot-at f i below))
 
 -- ---- a slot is below 11
 
@@ -79,28 +81,44 @@ pub record Filled (s : List ℕ) (all : List Head) (starts : List ℕ) (rest : L
   pub each : (slot : ℕ) → slot < 11 → startIn s all slot ≡ orElse (getD starts slot 0) (startIn s rest slot)
 
 pub filled-none : (s : List ℕ) (hs : List Head) → Filled s hs (replicate 11 0) hs
-filled-none s hs = record { long = length-replicate {A = ℕ} 11 0; each = λ slot h. sym (ap (λ (n : ℕ). orElse n (startIn s hs slot)) (getD-replicate 11 slot 0 0 h)) }
+filled-none s hs =
+    record {
+      long = length-replicate {A = ℕ} 11 0;
+      each = λ slot h. sym
+          (ap (λ (n : ℕ). orElse n (startIn s hs slot)) (getD-replicate 11 slot 0 0 h));
+    }
 
-next-each : (s : List ℕ) (starts : List ℕ) (h : Head) (hs : List Head) (slot : ℕ) → slotOf s h < length starts → orElse (getD starts slot 0) (startIn s (h ∷ hs) slot) ≡ orElse (getD (set starts (slotOf s h) (orElse (getD starts (slotOf s h) 0) (h .at))) slot 0) (startIn s hs slot)
+next-each : (s : List ℕ) (starts : List ℕ) (h : Head) (hs : List Head) (slot : ℕ) → slotOf s h < length starts
+    → orElse (getD starts slot 0) (startIn s (h ∷ hs) slot) ≡ orElse
+    (getD (set starts (slotOf s h) (orElse (getD starts (slotOf s h) 0) (h .at))) slot 0) (startIn s hs slot)
 unfolding startIn
 next-each s starts h hs slot l = go (eqb (slotOf s h) slot) refl
   where
-    go : (t : Bool) → eqb (slotOf s h) slot ≡ t → orElse (getD starts slot 0) (cond t (orElse (h .at) (startIn s hs slot)) (startIn s hs slot)) ≡ orElse (getD (set starts (slotOf s h) (orElse (getD starts (slotOf s h) 0) (h .at))) slot 0) (startIn s hs slot)
+    go : (t : Bool) → eqb (slotOf s h) slot ≡ t
+        → orElse (getD starts slot 0) (cond t (orElse (h .at) (startIn s hs slot)) (startIn s hs slot)) ≡ orElse
+        (getD (set starts (slotOf s h) (orElse (getD starts (slotOf s h) 0) (h .at))) slot 0) (startIn s hs slot)
     go true e =
         let here = eqb-true (slotOf s h) slot e in
         sym (else-join (getD starts slot 0) (h .at) (startIn s hs slot))
-        ∙ ap (λ (n : ℕ). orElse n (startIn s hs slot)) (ap (λ (k : ℕ). orElse (getD starts k 0) (h .at)) (sym here) ∙ (sym (getD-set-same starts (slotOf s h) (orElse (getD starts (slotOf s h) 0) (h .at)) 0 l) ∙ ap (λ (k : ℕ). getD (set starts (slotOf s h) (orElse (getD starts (slotOf s h) 0) (h .at))) k 0) here))
-    go false e = ap (λ (n : ℕ). orElse n (startIn s hs slot)) (sym (getD-set-other starts (slotOf s h) slot (orElse (getD starts (slotOf s h) 0) (h .at)) 0 (λ d. eqb-false (slotOf s h) slot e (sym d))))
+        ∙ ap (λ (n : ℕ). orElse n (startIn s hs slot)) (ap (λ (k : ℕ). orElse (getD starts k 0) (h .at)) (sym here) ∙
+        (sym (getD-set-same starts (slotOf s h) (orElse (getD starts (slotOf s h) 0) (h .at)) 0 l) ∙ ap
+        (λ (k : ℕ). getD (set starts (slotOf s h) (orElse (getD starts (slotOf s h) 0) (h .at))) k 0) here))
+    go false e =
+        ap (λ (n : ℕ). orElse n (startIn s hs slot)) (sym (getD-set-other starts (slotOf s h) slot
+        (orElse (getD starts (slotOf s h) 0) (h .at)) 0 (λ d. eqb-false (slotOf s h) slot e (sym d))))
 
 -- e is the extension at i, k its slot, and r what its slot then has
-pub filled-next : (s : List ℕ) (all : List Head) (starts : List ℕ) (i end : ℕ) (e : Head) (k r : ℕ) → i < end → e ≡ headOf s i end → k ≡ slotOf s e → r ≡ orElse (getD starts k 0) (e .at) → Filled s all starts (childrenOf s i end) → Filled s all (set starts k r) (childrenOf s (e .end) end)
+pub filled-next : (s : List ℕ) (all : List Head) (starts : List ℕ) (i end : ℕ) (e : Head) (k r : ℕ) → i < end → e ≡ headOf s i end
+    → k ≡ slotOf s e → r ≡ orElse (getD starts k 0) (e .at) → Filled s all starts (childrenOf s i end)
+    → Filled s all (set starts k r) (childrenOf s (e .end) end)
 filled-next s all starts i end e k r h is slot-is r-is f =
     record {
       long = length-set starts k r ∙ f .long;
       each = λ slot b. f .each slot b ∙ step slot;
     }
   where
-    step : (slot : ℕ) → orElse (getD starts slot 0) (startIn s (childrenOf s i end) slot) ≡ orElse (getD (set starts k r) slot 0) (startIn s (childrenOf s (e .end) end) slot)
+    step : (slot : ℕ)
+        → orElse (getD starts slot 0) (startIn s (childrenOf s i end) slot) ≡ orElse (getD (set starts k r) slot 0) (startIn s (childrenOf s (e .end) end) slot)
     step slot =
         let b : slotOf s e < length starts = rw (f .long) (slot-below _) in
         rw (children-next s i end h, ← is, r-is, slot-is) (next-each s starts e (childrenOf s (e .end) end) slot b)
@@ -115,7 +133,8 @@ else-none a = go (eqb a 0) refl
 pub filled-all : (s : List ℕ) (all : List Head) (starts : List ℕ) (i end : ℕ) → end ≤ i → Filled s all starts (childrenOf s i end) → starts ≡ startsOf s all
 unfolding startsOf startIn
 filled-all s all starts i end h f =
-    by-slot-is (startIn s all) starts (f .long) (λ slot b. sym (f .each slot b ∙ (ap (λ (l : List Head). orElse (getD starts slot 0) (startIn s l slot)) (children-done s i end h) ∙ else-none (getD starts slot 0))))
+    by-slot-is (startIn s all) starts (f .long) (λ slot b. sym (f .each slot b ∙
+    (ap (λ (l : List Head). orElse (getD starts slot 0) (startIn s l slot)) (children-done s i end h) ∙ else-none (getD starts slot 0))))
 
 -- the first extension of one slot
 pub start-at : (s : List ℕ) (hs : List Head) (slot : ℕ) → slot < 11 → getD (startsOf s hs) slot 0 ≡ startIn s hs slot
@@ -174,6 +193,7 @@ module _ (s : List ℕ) (end slot at : ℕ) where
   good-none t = rw t
 
   -- good is whether the value of the extension h passes
-  pub good-some : (h : Head) (e : Extension) (good : Bool) → (eqb slot 0 || eqb at 0) ≡ false → h ≡ headOf s at end → e ≡ extensionOf s h → good ≡ valueOk s slot (e .value .body) (e .value .end) → cond good (e .value .at) 0 ≡ goodStart s end slot at
+  pub good-some : (h : Head) (e : Extension) (good : Bool) → (eqb slot 0 || eqb at 0) ≡ false → h ≡ headOf s at end → e ≡ extensionOf s h
+      → good ≡ valueOk s slot (e .value .body) (e .value .end) → cond good (e .value .at) 0 ≡ goodStart s end slot at
   unfolding goodStart
   good-some h e good t p q g = rw (t, g, q, p)

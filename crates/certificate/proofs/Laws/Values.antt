@@ -65,9 +65,12 @@ pub head-same : (s : List ℕ) (at end to : ℕ) → headOf s at end .sound ≡ 
 unfolding headOf
 head-same s at end to e l m =
     let here = sound-passed s at end e in
-    let whole : headOf s at end ≡ wholeHead at (octetAt s at) (headerSize s at) (lengthOf s at) = ap (λ (b : Bool). cond b (wholeHead at (octetAt s at) (headerSize s at) (lengthOf s at)) (brokenHead at end)) here in
+    let whole : headOf s at end ≡ wholeHead at (octetAt s at) (headerSize s at) (lengthOf s at) = ap
+    (λ (b : Bool). cond b (wholeHead at (octetAt s at) (headerSize s at) (lengthOf s at)) (brokenHead at end)) here in
     let room : at + (headerSize s at + lengthOf s at) ≤ to = subst (λ (y : Head). y .end ≤ to) whole l in
-    let there = passed-wider (leb end (length s)) (lengthOk s at) (tagOk (octetAt s at)) (leb (at + (headerSize s at + lengthOf s at)) end) (leb to (length s)) (leb (at + (headerSize s at + lengthOf s at)) to) here (le-leb to (length s) m) (le-leb (at + (headerSize s at + lengthOf s at)) to room) in
+    let there = passed-wider (leb end (length s)) (lengthOk s at) (tagOk (octetAt s at)) (leb (at + (headerSize s at + lengthOf s at)) end)
+    (leb to (length s)) (leb (at + (headerSize s at + lengthOf s at)) to) here (le-leb to (length s) m)
+    (le-leb (at + (headerSize s at + lengthOf s at)) to room) in
     ap (λ (b : Bool). cond b (wholeHead at (octetAt s at) (headerSize s at) (lengthOf s at)) (brokenHead at to)) there ∙ sym whole
 
 -- an element with contents is sound
@@ -75,7 +78,10 @@ held-sound : (s : List ℕ) (at end : ℕ) → headOf s at end .body < headOf s 
 unfolding headOf
 held-sound s at end = go (passed s at end)
   where
-    go : (b : Bool) → cond b (wholeHead at (octetAt s at) (headerSize s at) (lengthOf s at)) (brokenHead at end) .body < cond b (wholeHead at (octetAt s at) (headerSize s at) (lengthOf s at)) (brokenHead at end) .end → cond b (wholeHead at (octetAt s at) (headerSize s at) (lengthOf s at)) (brokenHead at end) .sound ≡ true
+    go : (b : Bool)
+        → cond b (wholeHead at (octetAt s at) (headerSize s at) (lengthOf s at)) (brokenHead at end) .body < cond b
+        (wholeHead at (octetAt s at) (headerSize s at) (lengthOf s at)) (brokenHead at end) .end
+        → cond b (wholeHead at (octetAt s at) (headerSize s at) (lengthOf s at)) (brokenHead at end) .sound ≡ true
     go true h = refl
     go false h = absurd (omega (arith, h))
 
@@ -107,7 +113,8 @@ pub record Earlier (s : List ℕ) (at end : ℕ) (h : Head) (xs : List Head) : T
   pub high : h .at < end
   pub is : childrenOf s at (h .at) ≡ xs
 
-pub earlier : (s : List ℕ) (end : ℕ) → end ≤ length s → (h : Head) (ys xs : List Head) (at : ℕ) → childrenOf s at end ≡ xs ++ (h ∷ ys) → AllNamed s (xs ++ (h ∷ ys)) → Earlier s at end h xs
+pub earlier : (s : List ℕ) (end : ℕ) → end ≤ length s → (h : Head) (ys xs : List Head) (at : ℕ) → childrenOf s at end ≡ xs ++ (h ∷ ys)
+    → AllNamed s (xs ++ (h ∷ ys)) → Earlier s at end h xs
 earlier s end l h ys [] at e n =
     let f = children-first s at end h ys e in
     let here : h .at ≡ at = ap (λ (y : Head). y .at) (sym (f .is)) ∙ head-start s at end in
@@ -126,7 +133,9 @@ earlier s end l h ys (x ∷ xs) at e (more named rest) =
     }
 
 -- 361 looks at the extensions that stand before one
-pub seen-earlier : (s : List ℕ) (list h : Head) (xs ys : List Head) → list .end ≤ length s → childrenOf s (list .body) (list .end) ≡ xs ++ (h ∷ ys) → AllNamed s (xs ++ (h ∷ ys)) → seenBefore s (list .body) h ≡ anyOf (λ (e : Head). sameIdentifier s e h) xs
+pub seen-earlier : (s : List ℕ) (list h : Head) (xs ys : List Head) → list .end ≤ length s
+    → childrenOf s (list .body) (list .end) ≡ xs ++ (h ∷ ys) → AllNamed s (xs ++ (h ∷ ys))
+    → seenBefore s (list .body) h ≡ anyOf (λ (e : Head). sameIdentifier s e h) xs
 unfolding seenBefore
 seen-earlier s list h xs ys l e n = ap (anyOf (λ (e : Head). sameIdentifier s e h)) (earlier s (list .end) l h ys xs (list .body) e n .is)
 
@@ -150,8 +159,11 @@ read-whole : (s : List ℕ) (end : ℕ) (h : Head) → end ≤ length s → Read
 read-whole s end h l r b =
     let held : headOf s (r .place) end .body < headOf s (r .place) end .end = rw (← r .is) b in
     let sound = held-sound s (r .place) end held in
-    let at : h .at ≡ r .place = ap (λ (y : Head). y .at) (r .is) ∙ head-start s (r .place) end in
-    (ap (λ (y : Head). y .sound) (r .is) ∙ sound, ap (λ (n : ℕ). headOf s n (length s)) at ∙ (head-same s (r .place) end (length s) sound (omega (arith, l, head-ends s (r .place) end)) (omega arith) ∙ sym (r .is)))
+    let at : h .at ≡ r .place = ap (λ (y : Head). y .at) (r .is) ∙ head-start s (r .place) end in (
+      ap (λ (y : Head). y .sound) (r .is) ∙ sound,
+      ap (λ (n : ℕ). headOf s n (length s)) at ∙
+          (head-same s (r .place) end (length s) sound (omega (arith, l, head-ends s (r .place) end)) (omega arith) ∙ sym (r .is)),
+    )
 
 is-sound : (v : Soundness) → isSound v ≡ true → v ≡ Sound
 is-sound Sound e = refl
@@ -203,7 +215,8 @@ module _ (s starts : List ℕ) (end slot : ℕ) (l : end ≤ length s) (below : 
   abbrev holder : Head
   holder = valueFrom s (getD starts slot 0) end
 
-  good-passed : (goodStart s end slot (getD starts slot 0) ≡ 0 → ⊥) → (valueOk s slot (holder .body) (holder .end) ≡ true) × (goodStart s end slot (getD starts slot 0) ≡ holder .at)
+  good-passed : (goodStart s end slot (getD starts slot 0) ≡ 0 → ⊥)
+      → (valueOk s slot (holder .body) (holder .end) ≡ true) × (goodStart s end slot (getD starts slot 0) ≡ holder .at)
   unfolding goodStart
   good-passed = go (eqb slot 0 || eqb (getD starts slot 0) 0) (valueOk s slot (holder .body) (holder .end))
     where
@@ -218,7 +231,8 @@ module _ (s starts : List ℕ) (end slot : ℕ) (l : end ≤ length s) (below : 
       let start = value-start s starts end slot below in
       let good = good-passed (λ z. n (start ∙ z)) in
       let number : getD (valuesOf s starts end) slot 0 ≡ holder .at = start ∙ good .1 in
-      let whole = read-whole s (headOf s (getD starts slot 0) end .end) holder (omega (arith, l, head-ends s (getD starts slot 0) end)) (value-read s (headOf s (getD starts slot 0) end)) (held-value s slot holder (good .0)) in
+      let whole = read-whole s (headOf s (getD starts slot 0) end .end) holder (omega (arith, l, head-ends s (getD starts slot 0) end))
+      (value-read s (headOf s (getD starts slot 0) end)) (held-value s slot holder (good .0)) in
       let some : holder .at ≡ 0 → ⊥ = λ z. n (number ∙ z) in
       let is : holderAt s (getD (valuesOf s starts end) slot 0) ≡ holder = ap (holderAt s) number ∙ (rw (ne-eqb (holder .at) 0 some) (whole .1)) in
       rw is (passed-value s slot holder (good .0) (whole .0))

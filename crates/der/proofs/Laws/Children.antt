@@ -28,11 +28,13 @@ children-fuel s zero n at end p q = by-done s zero at end (omega arith) ∙ sym 
 children-fuel s (suc m) zero at end p q = by-done s (suc m) at end (omega arith) ∙ sym (by-done s zero at end (omega arith))
 children-fuel s (suc m) (suc n) at end p q = go (λ e. children-fuel s m n e end) (ltb at end) refl
   where
-    go : ((e : ℕ) → end - e ≤ m → end - e ≤ n → childrenBy s m e end ≡ childrenBy s n e end) → (b : Bool) → ltb at end ≡ b → childrenBy s (suc m) at end ≡ childrenBy s (suc n) at end
+    go : ((e : ℕ) → end - e ≤ m → end - e ≤ n → childrenBy s m e end ≡ childrenBy s n e end) → (b : Bool) → ltb at end ≡ b
+        → childrenBy s (suc m) at end ≡ childrenBy s (suc n) at end
     go ih true e =
         let h = ltb-true at end e in
         let f = head-forward s at end h in
-        by-next s m at end h ∙ (ap (λ (l : List Head). headOf s at end ∷ l) (ih (headOf s at end .end) (omega arith) (omega arith)) ∙ sym (by-next s n at end h))
+        by-next s m at end h ∙ (ap (λ (l : List Head). headOf s at end ∷ l) (ih (headOf s at end .end) (omega arith) (omega arith)) ∙ sym
+        (by-next s n at end h))
     go ih false e = by-done s (suc m) at end (ltb-false at end e) ∙ sym (by-done s (suc n) at end (ltb-false at end e))
 
 pub children-done : (s : List ℕ) (at end : ℕ) → end ≤ at → childrenOf s at end ≡ []
@@ -46,4 +48,5 @@ children-next s at end h =
     let e : end - at ≡ suc (end - (at + 1)) = omega arith in
     ap (λ (n : ℕ). childrenBy s n at end) e
     ∙ (by-next s (end - (at + 1)) at end h
-    ∙ ap (λ (l : List Head). headOf s at end ∷ l) (children-fuel s (end - (at + 1)) (end - headOf s at end .end) (headOf s at end .end) end (omega arith) (omega arith)))
+    ∙ ap (λ (l : List Head). headOf s at end ∷ l) (children-fuel s (end - (at + 1)) (end - headOf s at end .end) (headOf s at end .end) end
+    (omega arith) (omega arith)))

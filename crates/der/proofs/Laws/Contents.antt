@@ -35,7 +35,8 @@ boolean-law s body zero b e = refl
 boolean-law s body (suc zero) b e = rw e
 boolean-law s body (suc (suc n)) b e = rw (ne-eqb (suc (suc n)) 1 (λ h. omega arith))
 
-pub integer-law : (s : List ℕ) (body n a b : ℕ) → a ≡ octetAt s body → b ≡ octetAt s (body + 1) → (not (eqb n 0) && (eqb n 1 || not (eqb a 0 && ltb b 128 || eqb a 255 && leb 128 b))) ≡ integerOk (octetsFrom s body n)
+pub integer-law : (s : List ℕ) (body n a b : ℕ) → a ≡ octetAt s body → b ≡ octetAt s (body + 1)
+    → (not (eqb n 0) && (eqb n 1 || not (eqb a 0 && ltb b 128 || eqb a 255 && leb 128 b))) ≡ integerOk (octetsFrom s body n)
 unfolding octetsFrom
 integer-law s body zero a b e f = refl
 integer-law s body (suc zero) a b e f = refl
@@ -60,7 +61,8 @@ bits-alone u = go (eqb u 0) refl
     go true e = rw (eqb-true u 0 e)
     go false e = and-false (ltb u 8)
 
-pub bits-law : (s : List ℕ) (body n u l : ℕ) (low : Bool) → u ≡ octetAt s body → l ≡ octetAt s (body + (n - 1)) → low ≡ eqb (l % 2 ^ u) 0 → (not (eqb n 0) && (ltb u 8 && ((not (eqb n 1) || eqb u 0) && low))) ≡ bitsOk (octetsFrom s body n)
+pub bits-law : (s : List ℕ) (body n u l : ℕ) (low : Bool) → u ≡ octetAt s body → l ≡ octetAt s (body + (n - 1)) → low ≡ eqb (l % 2 ^ u) 0
+    → (not (eqb n 0) && (ltb u 8 && ((not (eqb n 1) || eqb u 0) && low))) ≡ bitsOk (octetsFrom s body n)
 unfolding octetsFrom
 bits-law s body zero u l low e f g = refl
 bits-law s body (suc zero) u l low e f g =
@@ -119,7 +121,8 @@ unfolding primitiveOk
 number-integer n c (inl e) = rw e
 number-integer n c (inr e) = rw e
 
-pub number-other : (n : ℕ) (c : List ℕ) → (n ≡ 1 → ⊥) → ((n ≡ 2) ⊎ (n ≡ 10) → ⊥) → (n ≡ 3 → ⊥) → (n ≡ 5 → ⊥) → (n ≡ 6 → ⊥) → primitiveOk n c ≡ not (holdsElements n)
+pub number-other : (n : ℕ) (c : List ℕ) → (n ≡ 1 → ⊥) → ((n ≡ 2) ⊎ (n ≡ 10) → ⊥) → (n ≡ 3 → ⊥) → (n ≡ 5 → ⊥) → (n ≡ 6 → ⊥)
+    → primitiveOk n c ≡ not (holdsElements n)
 unfolding primitiveOk
 number-other n c f g h k l =
     rw (ne-eqb n 1 f, ne-eqb n 2 (λ e. g (inl e)), ne-eqb n 10 (λ e. g (inr e)), ne-eqb n 3 h, ne-eqb n 5 k, ne-eqb n 6 l)
@@ -127,7 +130,8 @@ number-other n c f g h k l =
 -- ---- an element: `good` is whether its universal type's form and contents are kept
 
 module _ (s : List ℕ) (h : Head) where
-  pub element-universal : (good : Bool) (n : ℕ) → h .sound ≡ true → h .tag < 64 → n ≡ h .end - h .body → good ≡ universalOk (h .tag) (octetsFrom s (h .body) n) → good ≡ elementOk s h
+  pub element-universal : (good : Bool) (n : ℕ) → h .sound ≡ true → h .tag < 64 → n ≡ h .end - h .body
+      → good ≡ universalOk (h .tag) (octetsFrom s (h .body) n) → good ≡ elementOk s h
   unfolding elementOk
   element-universal good n i t e g = rw (i, lt-leb 64 (h .tag) t, g, e)
 

@@ -46,7 +46,8 @@ no-way good tags at end tag skip len h = rw (lt-leb (at + (skip + len)) end h) (
     go true false = refl
     go false b = refl
 
-pub head-cut : (good : Bool) (at end tag skip len : ℕ) → 1 ≤ skip → end ≤ largest → headIf good at end tag skip (min len largest) ≡ headIf good at end tag skip len
+pub head-cut : (good : Bool) (at end tag skip len : ℕ) → 1 ≤ skip → end ≤ largest
+    → headIf good at end tag skip (min len largest) ≡ headIf good at end tag skip len
 head-cut good at end tag skip len k e = go (leb len largest) refl
   where
     go : (t : Bool) → leb len largest ≡ t → headIf good at end tag skip (min len largest) ≡ headIf good at end tag skip len
@@ -56,12 +57,15 @@ head-cut good at end tag skip len k e = go (leb len largest) refl
         no-way good true at end tag skip (min len largest) (omega arith) ∙ sym (no-way good true at end tag skip len (omega arith))
 
 -- `more` octets of length follow the first, `high` is the first of them, and `len` is what they say, as far as a usize counts
-pub head-read : (s : List ℕ) (at end tag first more high len : ℕ) (fewest : Bool) → end ≤ largest → tag ≡ octetAt s at → first ≡ octetAt s (at + 1) → more ≡ first - 128 → high ≡ octetAt s (at + 2) → len ≡ min (lengthBy s at first) largest → fewest ≡ longOk first high len → headIf (leb end (length s) && (ltb first 128 || fewest)) at end tag (2 + more) len ≡ headOf s at end
+pub head-read : (s : List ℕ) (at end tag first more high len : ℕ) (fewest : Bool) → end ≤ largest → tag ≡ octetAt s at
+    → first ≡ octetAt s (at + 1) → more ≡ first - 128 → high ≡ octetAt s (at + 2) → len ≡ min (lengthBy s at first) largest
+    → fewest ≡ longOk first high len → headIf (leb end (length s) && (ltb first 128 || fewest)) at end tag (2 + more) len ≡ headOf s at end
 unfolding headOf
 head-read s at end tag first more high len fewest e t f m o l g =
     rw (g, l, m, o, f, t)
     (head-cut (leb end (length s) && (ltb one 128 || longOk one two (min long largest))) at end (octetAt s at) (2 + (one - 128)) long (omega arith) e
-    ∙ ap (λ (b : Bool). headIf (leb end (length s) && (ltb one 128 || (not (eqb one 128) && not (eqb one 255)) && (not (eqb two 0) && b))) at end (octetAt s at) (2 + (one - 128)) long) least)
+    ∙ ap (λ (b : Bool). headIf (leb end (length s) && (ltb one 128 || (not (eqb one 128) && not (eqb one 255)) && (not (eqb two 0) && b)))
+    at end (octetAt s at) (2 + (one - 128)) long) least)
   where
     one : ℕ
     one = octetAt s (at + 1)
@@ -107,21 +111,30 @@ pub head-start : (s : List ℕ) (at end : ℕ) → headOf s at end .at ≡ at
 unfolding headOf
 head-start s at end = if-start (leb end (length s) && lengthOk s at) at end (octetAt s at) (headerSize s at) (lengthOf s at)
 
-if-forward : (good : Bool) (at end tag skip len : ℕ) → 1 ≤ skip → at < end → (at < headIf good at end tag skip len .end) × (headIf good at end tag skip len .end ≤ end)
+if-forward : (good : Bool) (at end tag skip len : ℕ) → 1 ≤ skip → at < end
+    → (at < headIf good at end tag skip len .end) × (headIf good at end tag skip len .end ≤ end)
 if-forward good at end tag skip len k h = go (good && (tagOk tag && leb (at + (skip + len)) end)) refl
   where
-    go : (b : Bool) → (good && (tagOk tag && leb (at + (skip + len)) end)) ≡ b → (at < cond b (wholeHead at tag skip len) (brokenHead at end) .end) × (cond b (wholeHead at tag skip len) (brokenHead at end) .end ≤ end)
-    go true e = (omega arith, leb-true (at + (skip + len)) end (and-r (tagOk tag) (leb (at + (skip + len)) end) (and-r good (tagOk tag && leb (at + (skip + len)) end) e)))
+    go : (b : Bool) → (good && (tagOk tag && leb (at + (skip + len)) end)) ≡ b
+        → (at < cond b (wholeHead at tag skip len) (brokenHead at end) .end) × (cond b (wholeHead at tag skip len) (brokenHead at end) .end ≤ end)
+    go true e = (
+      omega arith,
+      leb-true (at + (skip + len)) end (and-r (tagOk tag) (leb (at + (skip + len)) end)
+          (and-r good (tagOk tag && leb (at + (skip + len)) end) e)),
+    )
     go false e = (h, omega arith)
 
 pub head-forward : (s : List ℕ) (at end : ℕ) → at < end → (at < headOf s at end .end) × (headOf s at end .end ≤ end)
 unfolding headOf
 head-forward s at end h = if-forward (leb end (length s) && lengthOk s at) at end (octetAt s at) (headerSize s at) (lengthOf s at) (omega arith) h
 
-if-body : (good : Bool) (at end tag skip len : ℕ) → 1 ≤ skip → at < end → (at < headIf good at end tag skip len .body) × (headIf good at end tag skip len .body ≤ headIf good at end tag skip len .end)
+if-body : (good : Bool) (at end tag skip len : ℕ) → 1 ≤ skip → at < end
+    → (at < headIf good at end tag skip len .body) × (headIf good at end tag skip len .body ≤ headIf good at end tag skip len .end)
 if-body good at end tag skip len k h = go (good && (tagOk tag && leb (at + (skip + len)) end))
   where
-    go : (b : Bool) → (at < cond b (wholeHead at tag skip len) (brokenHead at end) .body) × (cond b (wholeHead at tag skip len) (brokenHead at end) .body ≤ cond b (wholeHead at tag skip len) (brokenHead at end) .end)
+    go : (b : Bool)
+        → (at < cond b (wholeHead at tag skip len) (brokenHead at end) .body) ×
+        (cond b (wholeHead at tag skip len) (brokenHead at end) .body ≤ cond b (wholeHead at tag skip len) (brokenHead at end) .end)
     go true = (omega arith, omega arith)
     go false = (h, omega arith)
 
@@ -134,13 +147,22 @@ head-body s at end h = if-body (leb end (length s) && lengthOk s at) at end (oct
 not-sound : _≡_ {A = Bool} false true → ⊥
 not-sound e = let n : _≡_ {A = ℕ} 0 1 = cc in omega arith
 
-if-sound : (good : Bool) (at end tag skip len : ℕ) → headIf good at end tag skip len .sound ≡ true → (good ≡ true) × ((at + (skip + len) ≤ end) × (headIf good at end tag skip len ≡ wholeHead at tag skip len))
+if-sound : (good : Bool) (at end tag skip len : ℕ) → headIf good at end tag skip len .sound ≡ true
+    → (good ≡ true) × ((at + (skip + len) ≤ end) × (headIf good at end tag skip len ≡ wholeHead at tag skip len))
 if-sound good at end tag skip len = go (good && (tagOk tag && leb (at + (skip + len)) end)) refl
   where
-    go : (b : Bool) → (good && (tagOk tag && leb (at + (skip + len)) end)) ≡ b → cond b (wholeHead at tag skip len) (brokenHead at end) .sound ≡ true → (good ≡ true) × ((at + (skip + len) ≤ end) × (cond b (wholeHead at tag skip len) (brokenHead at end) ≡ wholeHead at tag skip len))
+    go : (b : Bool) → (good && (tagOk tag && leb (at + (skip + len)) end)) ≡ b
+        → cond b (wholeHead at tag skip len) (brokenHead at end) .sound ≡ true
+        → (good ≡ true) × ((at + (skip + len) ≤ end) × (cond b (wholeHead at tag skip len) (brokenHead at end) ≡ wholeHead at tag skip len))
     go true e h =
-        let inner = and-r good (tagOk tag && leb (at + (skip + len)) end) e in
-        (and-l good (tagOk tag && leb (at + (skip + len)) end) e, (leb-true (at + (skip + len)) end (and-r (tagOk tag) (leb (at + (skip + len)) end) inner), refl))
+        let inner = and-r good (tagOk tag && leb (at + (skip + len)) end) e in (
+          and-l good (tagOk tag && leb (at + (skip + len)) end) e,
+          (
+            leb-true (at + (skip + len)) end
+                (and-r (tagOk tag) (leb (at + (skip + len)) end) inner),
+            refl,
+          ),
+        )
     go false e h = absurd (not-sound h)
 
 pub head-inside : (s : List ℕ) (at end : ℕ) → headOf s at end .sound ≡ true → (at + 2 ≤ headOf s at end .body) × (headOf s at end .body ≤ headOf s at end .end)
@@ -149,10 +171,12 @@ head-inside s at end e =
     let w = if-sound (leb end (length s) && lengthOk s at) at end (octetAt s at) (headerSize s at) (lengthOf s at) e in
     rw (w .1 .1) (omega arith, omega arith)
 
-if-constructed : (good : Bool) (at end tag skip len : ℕ) → constructed (headIf good at end tag skip len .tag) ≡ true → headIf good at end tag skip len .sound ≡ true
+if-constructed : (good : Bool) (at end tag skip len : ℕ) → constructed (headIf good at end tag skip len .tag) ≡ true
+    → headIf good at end tag skip len .sound ≡ true
 if-constructed good at end tag skip len = go (good && (tagOk tag && leb (at + (skip + len)) end))
   where
-    go : (b : Bool) → constructed (cond b (wholeHead at tag skip len) (brokenHead at end) .tag) ≡ true → cond b (wholeHead at tag skip len) (brokenHead at end) .sound ≡ true
+    go : (b : Bool) → constructed (cond b (wholeHead at tag skip len) (brokenHead at end) .tag) ≡ true
+        → cond b (wholeHead at tag skip len) (brokenHead at end) .sound ≡ true
     go true e = refl
     go false e = e
 
@@ -167,7 +191,8 @@ long-length s at e h =
     let len = numberOf (octetsFrom s (at + 2) (octetAt s (at + 1) - 128)) in
     let least = not (eqb (octetAt s (at + 2)) 0) && leb 128 len in
     let whole : longOk (octetAt s (at + 1)) (octetAt s (at + 2)) len ≡ true = rw far at e in
-    let high = not-true (eqb (octetAt s (at + 2)) 0) (and-l (not (eqb (octetAt s (at + 2)) 0)) (leb 128 len) (and-r (not (eqb (octetAt s (at + 1)) 128) && not (eqb (octetAt s (at + 1)) 255)) least whole)) in
+    let high = not-true (eqb (octetAt s (at + 2)) 0) (and-l (not (eqb (octetAt s (at + 2)) 0)) (leb 128 len)
+    (and-r (not (eqb (octetAt s (at + 1)) 128) && not (eqb (octetAt s (at + 1)) 255)) least whole)) in
     rw far (number-long s (at + 2) (octetAt s (at + 1) - 128) (eqb-false (octetAt s (at + 2)) 0 high) (omega arith))
 
 pub head-two : (s : List ℕ) (at end : ℕ) → length s < 65536 → headOf s at end .sound ≡ true → octetAt s (at + 1) < 131

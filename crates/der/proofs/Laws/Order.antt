@@ -36,13 +36,16 @@ module _ (s : List ℕ) (a n b m k x y : ℕ) (h : k < n) (l : k < m) (e : x ≡
       let q : y ≤ x = omega arith in
       rw (octets-next s a n k h, octets-next s b m k l, ← e, ← f, le-ltb x y q, lt-ltb y x p)
 
-  pub le-same : y ≤ x → x ≤ y → octetsLe (octetsFrom s (a + k) (n - k)) (octetsFrom s (b + k) (m - k)) ≡ octetsLe (octetsFrom s (a + (k + 1)) (n - (k + 1))) (octetsFrom s (b + (k + 1)) (m - (k + 1)))
+  pub le-same : y ≤ x → x ≤ y
+      → octetsLe (octetsFrom s (a + k) (n - k)) (octetsFrom s (b + k) (m - k)) ≡ octetsLe (octetsFrom s (a + (k + 1)) (n - (k + 1)))
+      (octetsFrom s (b + (k + 1)) (m - (k + 1)))
   unfolding octetsLe
   le-same p q = rw (octets-next s a n k h, octets-next s b m k l, ← e, ← f, le-ltb x y p, le-ltb y x q)
 
 -- ---- the members of a list
 
-pub ascend-begins : (s : List ℕ) (at end : ℕ) → ascending (map (octetsOf s) (childrenOf s at end)) ≡ ascendFrom (octetsFrom s at (at - at)) (map (octetsOf s) (childrenOf s at end))
+pub ascend-begins : (s : List ℕ) (at end : ℕ)
+    → ascending (map (octetsOf s) (childrenOf s at end)) ≡ ascendFrom (octetsFrom s at (at - at)) (map (octetsOf s) (childrenOf s at end))
 unfolding octetsFrom
 ascend-begins s at end = let z : at - at ≡ 0 = omega arith in rw z
 
@@ -52,7 +55,8 @@ ascend-done s x i end h = rw (children-done s i end h)
 
 -- good is whether the next member may follow x
 module _ (s x : List ℕ) (i end : ℕ) (member : Head) (good : Bool) (l : i < end) (e : member ≡ headOf s i end) (g : good ≡ (not true || octetsLe x (octetsFrom s i (member .end - i)))) where
-  ascend-split : ascendFrom x (map (octetsOf s) (childrenOf s i end)) ≡ (good && ascendFrom (octetsFrom s i (member .end - i)) (map (octetsOf s) (childrenOf s (member .end) end)))
+  ascend-split : ascendFrom x (map (octetsOf s) (childrenOf s i end)) ≡
+      (good && ascendFrom (octetsFrom s i (member .end - i)) (map (octetsOf s) (childrenOf s (member .end) end)))
   unfolding ascendFrom
   ascend-split =
       let here : member .at ≡ i = rw e (head-start s i end) in
@@ -61,5 +65,6 @@ module _ (s x : List ℕ) (i end : ℕ) (member : Head) (good : Bool) (l : i < e
   pub ascend-bad : good ≡ false → ascendFrom x (map (octetsOf s) (childrenOf s i end)) ≡ false
   ascend-bad f = cc ascend-split
 
-  pub ascend-next : good ≡ true → ascendFrom x (map (octetsOf s) (childrenOf s i end)) ≡ ascendFrom (octetsFrom s i (member .end - i)) (map (octetsOf s) (childrenOf s (member .end) end))
+  pub ascend-next : good ≡ true
+      → ascendFrom x (map (octetsOf s) (childrenOf s i end)) ≡ ascendFrom (octetsFrom s i (member .end - i)) (map (octetsOf s) (childrenOf s (member .end) end))
   ascend-next f = cc ascend-split

@@ -37,7 +37,8 @@ judge-below to nothing nothing l f g = l
 
 soundness-below : (s : List ℕ) (ns : List Node) {from to : ℕ} → 0 < to → Rising from to (map startOf ns) → refusalPlace (soundness s ns) < to
 unfolding soundness
-soundness-below s ns {to = to} l r = judge-below to (first (faulty s) ns) (first (unordered s) ns) l (first-below (faulty s) ns r) (first-below (unordered s) ns r)
+soundness-below s ns {to = to} l r =
+    judge-below to (first (faulty s) ns) (first (unordered s) ns) l (first-below (faulty s) ns r) (first-below (unordered s) ns r)
 
 pub fault-inside : (s : List ℕ) (at end : ℕ) → at < end → refusalPlace (stretchSoundness s at end) < end
 unfolding stretchSoundness

@@ -31,7 +31,8 @@ chain-by : (s : List ℕ) (fuel at end : ℕ) → end - at ≤ fuel → at ≤ e
 chain-by s zero at end f l = chain-end s at end (omega arith)
 chain-by s (suc fuel) at end f l = go (chain-by s fuel (headOf s at end .end) end) (ltb at end) refl
   where
-    go : (end - headOf s at end .end ≤ fuel → headOf s at end .end ≤ end → Chain s end (headOf s at end .end) (childrenOf s (headOf s at end .end) end)) → (b : Bool) → ltb at end ≡ b → Chain s end at (childrenOf s at end)
+    go : (end - headOf s at end .end ≤ fuel → headOf s at end .end ≤ end → Chain s end (headOf s at end .end) (childrenOf s (headOf s at end .end) end))
+        → (b : Bool) → ltb at end ≡ b → Chain s end at (childrenOf s at end)
     go ih true e =
         let h = ltb-true at end e in
         let k = head-forward s at end h in
@@ -60,7 +61,9 @@ rises-join (more l h q) r = let k = rises-le r in more l (lt-of-lt-of-le h k) (r
 module _ (s : List ℕ) (levels end : ℕ) (each : (at : ℕ) → at < end → Rising at (headOf s at end .end) (map startOf (elementsOf s levels (headOf s at end)))) where
   joined-rise : {at : ℕ} {hs : List Head} → Chain s end at hs → Rising at end (map startOf (joined (elementsOf s levels) hs))
   joined-rise done = none (le-refl end)
-  joined-rise (next {at = at} {hs = hs} l r) = rw (map-append startOf (elementsOf s levels (headOf s at end)) (joined (elementsOf s levels) hs)) (rises-join (each at l) (joined-rise r))
+  joined-rise (next {at = at} {hs = hs} l r) =
+      rw (map-append startOf (elementsOf s levels (headOf s at end)) (joined (elementsOf s levels) hs))
+      (rises-join (each at l) (joined-rise r))
 
 pub elements-rise : (s : List ℕ) (levels at end : ℕ) → at < end → Rising at (headOf s at end .end) (map startOf (elementsOf s levels (headOf s at end)))
 unfolding elementsOf
@@ -72,10 +75,14 @@ elements-rise s (suc levels) at end l =
     later : (m n : ℕ) → m + 2 ≤ n → suc m ≤ n
     later m n k = omega arith
 
-    go : ((i to : ℕ) → i < to → Rising i (headOf s i to .end) (map startOf (elementsOf s levels (headOf s i to)))) → (b : Bool) → constructed (headOf s at end .tag) ≡ b → at < headOf s at end .end → Rising (suc at) (headOf s at end .end) (map startOf (joined (elementsOf s levels) (cond b (childrenOf s (headOf s at end .body) (headOf s at end .end)) [])))
+    go : ((i to : ℕ) → i < to → Rising i (headOf s i to .end) (map startOf (elementsOf s levels (headOf s i to)))) → (b : Bool)
+        → constructed (headOf s at end .tag) ≡ b → at < headOf s at end .end
+        → Rising (suc at) (headOf s at end .end) (map startOf (joined (elementsOf s levels)
+        (cond b (childrenOf s (headOf s at end .body) (headOf s at end .end)) [])))
     go ih true e f =
         let inside = head-inside s at end (head-constructed s at end e) in
-        rises-lower (later at (headOf s at end .body) (inside .0)) (joined-rise s levels (headOf s at end .end) (λ i. ih i (headOf s at end .end)) (children-chain s (headOf s at end .body) (headOf s at end .end) (inside .1)))
+        rises-lower (later at (headOf s at end .body) (inside .0)) (joined-rise s levels (headOf s at end .end)
+        (λ i. ih i (headOf s at end .end)) (children-chain s (headOf s at end .body) (headOf s at end .end) (inside .1)))
     go ih false e f = none f
 
 pub members-rise : (s : List ℕ) (levels at end : ℕ) → at ≤ end → Rising at end (map startOf (membersOf s levels at end))

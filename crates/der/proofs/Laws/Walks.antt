@@ -53,7 +53,8 @@ unfolding first orElse
 first-join p [] ys = refl
 first-join p (x ∷ xs) ys = go (p x) (first-join p xs ys)
   where
-    go : (b : Bool) → first p (xs ++ ys) ≡ orElse (first p xs) (first p ys) → cond b (found (x .head .at)) (first p (xs ++ ys)) ≡ orElse (cond b (found (x .head .at)) (first p xs)) (first p ys)
+    go : (b : Bool) → first p (xs ++ ys) ≡ orElse (first p xs) (first p ys)
+        → cond b (found (x .head .at)) (first p (xs ++ ys)) ≡ orElse (cond b (found (x .head .at)) (first p xs)) (first p ys)
     go true e = refl
     go false e = e
 
@@ -78,7 +79,8 @@ unfolding soundness elementsOf first
 element-deep s depth h e = rw e
 
 -- the element itself, and then what its list gives
-opened : (s : List ℕ) (d : ℕ) (h : Head) → (d ≡ 0 → ⊥) → soundness s (elementsOf s d h) ≡ andThen (soundness s (record { head = h; levels = d } ∷ [])) (soundness s (joined (elementsOf s (d - 1)) (heldBy s h)))
+opened : (s : List ℕ) (d : ℕ) (h : Head) → (d ≡ 0 → ⊥)
+    → soundness s (elementsOf s d h) ≡ andThen (soundness s (record { head = h; levels = d } ∷ [])) (soundness s (joined (elementsOf s (d - 1)) (heldBy s h)))
 unfolding elementsOf
 opened s zero h f = absurd (f refl)
 opened s (suc d) h f =
@@ -89,7 +91,8 @@ alone-bad : (s : List ℕ) (d : ℕ) (h : Head) → (d ≡ 0 → ⊥) → elemen
 unfolding soundness first
 alone-bad s d h f e = rw (ne-eqb d 0 f, e)
 
-alone-good : (s : List ℕ) (d : ℕ) (h : Head) → (d ≡ 0 → ⊥) → elementOk s h ≡ true → soundness s (record { head = h; levels = d } ∷ []) ≡ inOrder (not (isSet h) || ascending (map (octetsOf s) (heldBy s h))) (h .at)
+alone-good : (s : List ℕ) (d : ℕ) (h : Head) → (d ≡ 0 → ⊥) → elementOk s h ≡ true
+    → soundness s (record { head = h; levels = d } ∷ []) ≡ inOrder (not (isSet h) || ascending (map (octetsOf s) (heldBy s h))) (h .at)
 unfolding soundness first
 alone-good s d h f e = rw (ne-eqb d 0 f, e) (go (isSet h) (ascending (map (octetsOf s) (heldBy s h))))
   where
@@ -139,12 +142,27 @@ module _ (s : List ℕ) (depth at : ℕ) (set : Bool) (body end : ℕ) where
       go false b = refl
 
   -- the next member, what it gives, and whether it may follow the one before it
-  pub list-next : (ascends : Bool) (so-far : Soundness) (x : List ℕ) (i : ℕ) (member : Head) (v next : Soundness) (follows : Bool) → i < end → member ≡ headOf s i end → v ≡ soundness s (elementsOf s depth member) → next ≡ andThen so-far v → follows ≡ (not set || octetsLe x (octetsFrom s i (member .end - i))) → listFrom ascends so-far x i ≡ listFrom (ascends && follows) next (octetsFrom s i (member .end - i)) (member .end)
+  pub list-next : (ascends : Bool) (so-far : Soundness) (x : List ℕ) (i : ℕ) (member : Head) (v next : Soundness) (follows : Bool) → i < end
+      → member ≡ headOf s i end → v ≡ soundness s (elementsOf s depth member) → next ≡ andThen so-far v
+      → follows ≡ (not set || octetsLe x (octetsFrom s i (member .end - i)))
+      → listFrom ascends so-far x i ≡ listFrom (ascends && follows) next (octetsFrom s i (member .end - i)) (member .end)
   unfolding ascendFrom
   list-next ascends so-far x i member v next follows l m e n w =
       let here : member .at ≡ i = rw m (head-start s i end) in
       let later = membersOf s depth (member .end) end in
-      rw (children-next s i end l, ← m, soundness-join s (elementsOf s depth member) later, ← e, here, split ascends set (octetsLe x (octetsFrom s i (member .end - i))) (ascendFrom (octetsFrom s i (member .end - i)) (map (octetsOf s) (childrenOf s (member .end) end))), ← w, n, then-assoc so-far v (soundness s later))
+      rw (
+        children-next s i end l,
+        ← m,
+        soundness-join s (elementsOf s depth member) later,
+        ← e,
+        here,
+        split ascends set
+            (octetsLe x (octetsFrom s i (member .end - i))) (ascendFrom (octetsFrom s i (member .end - i))
+            (map (octetsOf s) (childrenOf s (member .end) end))),
+        ← w,
+        n,
+        then-assoc so-far v (soundness s later),
+      )
     where
       split : (a b p q : Bool) → (a && (not b || p && q)) ≡ ((a && (not b || p)) && (not b || q))
       split true true p q = refl
@@ -174,7 +192,8 @@ module _ (s : List ℕ) (at end : ℕ) where
     unfolding stretchSoundness soundness first
     stretch-filled l p =
         let done : childrenOf s (h .end) end ≡ [] = children-done s (h .end) end (omega arith) in
-        rw (← e, eq-eqb (h .end) end p, children-next s at end l, ← e, done) (sym (soundness-join s (elementsOf s 16 h) [] ∙ then-sound (soundness s (elementsOf s 16 h))))
+        rw (← e, eq-eqb (h .end) end p, children-next s at end l, ← e, done)
+        (sym (soundness-join s (elementsOf s 16 h) [] ∙ then-sound (soundness s (elementsOf s 16 h))))
 
 -- ---- what an answer of Sound says of the elements
 
@@ -185,11 +204,13 @@ then-parts (Unordered p) Sound e = (e, refl)
 then-parts (Unordered p) (Unsound q) e = (cc, e)
 then-parts (Unordered p) (Unordered q) e = (e, cc)
 
-pub sound-stretch : (s : List ℕ) (at end : ℕ) → stretchSoundness s at end ≡ Sound → (headOf s at end .end ≡ end) × (soundness s (elementsOf s 16 (headOf s at end)) ≡ Sound)
+pub sound-stretch : (s : List ℕ) (at end : ℕ) → stretchSoundness s at end ≡ Sound
+    → (headOf s at end .end ≡ end) × (soundness s (elementsOf s 16 (headOf s at end)) ≡ Sound)
 unfolding stretchSoundness
 sound-stretch s at end e = go (eqb (headOf s at end .end) end) refl e
   where
-    go : (b : Bool) → eqb (headOf s at end .end) end ≡ b → cond b (soundness s (elementsOf s 16 (headOf s at end))) (Unsound at) ≡ Sound → (headOf s at end .end ≡ end) × (soundness s (elementsOf s 16 (headOf s at end)) ≡ Sound)
+    go : (b : Bool) → eqb (headOf s at end .end) end ≡ b → cond b (soundness s (elementsOf s 16 (headOf s at end))) (Unsound at) ≡ Sound
+        → (headOf s at end .end ≡ end) × (soundness s (elementsOf s 16 (headOf s at end)) ≡ Sound)
     go true f g = (eqb-true (headOf s at end .end) end f, g)
     go false f g = (cc, cc)
 
@@ -205,7 +226,8 @@ module _ (s : List ℕ) (levels : ℕ) (h : Head) (e : soundness s (elementsOf s
       go false f = cc (element-bad s levels h (elementOk s h) sound-depth refl f)
 
   module _ (c : constructed (h .tag) ≡ true) where
-    parts : (inOrder (not (isSet h) || ascending (map (octetsOf s) (childrenOf s (h .body) (h .end)))) (h .at) ≡ Sound) × (soundness s (membersOf s (levels - 1) (h .body) (h .end)) ≡ Sound)
+    parts : (inOrder (not (isSet h) || ascending (map (octetsOf s) (childrenOf s (h .body) (h .end)))) (h .at) ≡ Sound) ×
+        (soundness s (membersOf s (levels - 1) (h .body) (h .end)) ≡ Sound)
     parts = then-parts _ _ (sym (element-list s levels h (elementOk s h) sound-depth refl (constructed (h .tag)) sound-self refl c) ∙ e)
 
     pub sound-order : (not (isSet h) || ascending (map (octetsOf s) (childrenOf s (h .body) (h .end)))) ≡ true
@@ -218,6 +240,8 @@ module _ (s : List ℕ) (levels : ℕ) (h : Head) (e : soundness s (elementsOf s
     pub sound-members : soundness s (membersOf s (levels - 1) (h .body) (h .end)) ≡ Sound
     sound-members = parts .1
 
-pub sound-next : (s : List ℕ) (levels at end : ℕ) → at < end → soundness s (membersOf s levels at end) ≡ Sound → (soundness s (elementsOf s levels (headOf s at end)) ≡ Sound) × (soundness s (membersOf s levels (headOf s at end .end) end) ≡ Sound)
+pub sound-next : (s : List ℕ) (levels at end : ℕ) → at < end → soundness s (membersOf s levels at end) ≡ Sound
+    → (soundness s (elementsOf s levels (headOf s at end)) ≡ Sound) × (soundness s (membersOf s levels (headOf s at end .end) end) ≡ Sound)
 sound-next s levels at end l e =
-    then-parts _ _ (sym (soundness-join s (elementsOf s levels (headOf s at end)) (membersOf s levels (headOf s at end .end) end)) ∙ rw (children-next s at end l) at e)
+    then-parts _ _ (sym (soundness-join s (elementsOf s levels (headOf s at end)) (membersOf s levels (headOf s at end .end) end)) ∙ rw
+    (children-next s at end l) at e)

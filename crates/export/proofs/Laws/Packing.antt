@@ -36,6 +36,7 @@ side-small (NotCertificate side place) = side-number-small side
 side-small NoRoom = omega arith
 side-small NoNumber = omega arith
 
-pub packed-by : (r : Refusal) (number side place : ℕ) → number ≡ numberOf r → side ≡ sideOf r → place ≡ placeOf r → 2 ^ 63 + number * 2 ^ 32 + side * 2 ^ 16 + place ≡ packedRefusal r
+pub packed-by : (r : Refusal) (number side place : ℕ) → number ≡ numberOf r → side ≡ sideOf r → place ≡ placeOf r
+    → 2 ^ 63 + number * 2 ^ 32 + side * 2 ^ 16 + place ≡ packedRefusal r
 unfolding packedRefusal
 packed-by r number side place n s p = rw (n, s, p)

@@ -20,7 +20,11 @@ packed-requires c κs =
     let told = c .before in
     let call = told .before .before .before .before in
     let a = call .before .before .before .before .before .args in
-    omega (arith, refused-nowhere (a .number) (a .profile) (a .certificate .now) (a .issuer .now) (a .room .now) _ (sym (call .write-record .ensures .told) ∙ told .answer2 .given .1))
+    omega (
+      arith,
+      refused-nowhere (a .number) (a .profile) (a .certificate .now) (a .issuer .now) (a .room .now) _
+          (sym (call .write-record .ensures .told) ∙ told .answer2 .given .1),
+    )
 
 same-length : tie.Need-same-length
 same-length c = search needs

@@ -8,8 +8,12 @@ use Rattle.export.proofs.packed.Tie as tie
 
 bounds : (c : tie.After-place-of) → (c .before .before .number-of .result ≤ 8) × (c .before .side-of .result ≤ 2) × (c .place-of .result < 65536)
 bounds c =
-    let start = c .before .before .before in
-    (rw (c .before .before .number-of .ensures) (number-small (start .args .r)), rw (c .before .side-of .ensures) (side-small (start .args .r)), rw (c .place-of .ensures) (start .pre))
+    let start = c .before .before .before in (
+      rw (c .before .before .number-of .ensures) (number-small (start .args .r)),
+      rw (c .before .side-of .ensures)
+          (side-small (start .args .r)),
+      rw (c .place-of .ensures) (start .pre),
+    )
 
 number-of-requires : tie.Need-number-of-requires
 number-of-requires c κs = search needs

@@ -68,7 +68,8 @@ first-accepts (Refused r) b p e = absurd (refused r p e)
 first-accepts (Accepted q) b p e = (q, refl)
 
 -- what is accepted was admitted, and then neither side was refused
-admitted : (a : Judgement) (p : Profile) (s issuer : List ℕ) → onceAdmitted a s issuer ≡ Accepted p → (q : Profile) × (a ≡ Accepted q) × (certificateVerdict s ≡ Fits)
+admitted : (a : Judgement) (p : Profile) (s issuer : List ℕ) → onceAdmitted a s issuer ≡ Accepted p
+    → (q : Profile) × (a ≡ Accepted q) × (certificateVerdict s ≡ Fits)
 unfolding bothSides
 admitted (Refused r) p s issuer e = absurd (refused r p e)
 admitted (Accepted q) p s issuer e =

@@ -56,7 +56,8 @@ pub admission-nowhere : (certificate issuer profile : ℕ) (r : Refusal) → adm
 unfolding admissionOf
 admission-nowhere certificate issuer profile r e = subst NowhereBy e (go (lengthOk certificate) (lengthOk issuer) (askedOf profile))
   where
-    go : (a b : Bool) (asked : Asked) → NowhereBy (cond a (cond b (forProfile asked) (Judgements.Refused Refusals.IssuerLength)) (Judgements.Refused Refusals.CertificateLength))
+    go : (a b : Bool) (asked : Asked)
+        → NowhereBy (cond a (cond b (forProfile asked) (Judgements.Refused Refusals.IssuerLength)) (Judgements.Refused Refusals.CertificateLength))
     go true true (For p) = tt
     go true true Unknown = record { place = refl; within = λ c i. tt }
     go true false asked = record { place = refl; within = λ c i. tt }
@@ -74,12 +75,16 @@ module _ (certificate issuer : List ℕ) where
   PlacedBy (Judgements.Accepted p) = Unit {0}
 
   -- 4, 5 and 6
-  side-placed : (p : Profile) (side : Side) → 1 ≤ length (sideOctets certificate issuer side) → length (sideOctets certificate issuer side) ≤ 8192 → PlacedBy (sideJudgement p side (sideOctets certificate issuer side))
+  side-placed : (p : Profile) (side : Side) → 1 ≤ length (sideOctets certificate issuer side)
+      → length (sideOctets certificate issuer side) ≤ 8192 → PlacedBy (sideJudgement p side (sideOctets certificate issuer side))
   unfolding sideJudgement
   side-placed p side l m =
-      go (derSoundness (sideOctets certificate issuer side)) (certificateVerdict (sideOctets certificate issuer side)) (fault-inside (sideOctets certificate issuer side) 0 (length (sideOctets certificate issuer side)) l) (departure-inside (sideOctets certificate issuer side) l)
+      go (derSoundness (sideOctets certificate issuer side)) (certificateVerdict (sideOctets certificate issuer side))
+      (fault-inside (sideOctets certificate issuer side) 0 (length (sideOctets certificate issuer side)) l)
+      (departure-inside (sideOctets certificate issuer side) l)
     where
-      go : (d : Soundness) (v : Verdict) → faultPlace d < length (sideOctets certificate issuer side) → departurePlace v < length (sideOctets certificate issuer side) → PlacedBy (bySoundness p side d v)
+      go : (d : Soundness) (v : Verdict) → faultPlace d < length (sideOctets certificate issuer side)
+          → departurePlace v < length (sideOctets certificate issuer side) → PlacedBy (bySoundness p side d v)
       go Sound Fits f g = tt
       go Sound (Wrong place) f g = record { within = g; low = lt-of-lt-of-le g m }
       go Sound Stranger f g = record { within = g; low = lt-of-lt-of-le g m }
@@ -90,9 +95,12 @@ module _ (certificate issuer : List ℕ) where
   first-placed (Judgements.Refused r) b k l = k
   first-placed (Judgements.Accepted p) b k l = l
 
-  both-placed : (p : Profile) → (1 ≤ length certificate) × (length certificate ≤ 8192) → (1 ≤ length issuer) × (length issuer ≤ 8192) → PlacedBy (bothSides p certificate issuer)
+  both-placed : (p : Profile) → (1 ≤ length certificate) × (length certificate ≤ 8192) → (1 ≤ length issuer) × (length issuer ≤ 8192)
+      → PlacedBy (bothSides p certificate issuer)
   unfolding bothSides
-  both-placed p k l = first-placed (sideJudgement p Certificate certificate) (sideJudgement p Issuer issuer) (side-placed p Certificate (k .0) (k .1)) (side-placed p Issuer (l .0) (l .1))
+  both-placed p k l =
+      first-placed (sideJudgement p Certificate certificate) (sideJudgement p Issuer issuer) (side-placed p Certificate (k .0) (k .1))
+      (side-placed p Issuer (l .0) (l .1))
 
   judgement-placed : (profile : ℕ) → PlacedBy (judgementOf certificate issuer profile)
   unfolding judgementOf
@@ -138,7 +146,8 @@ abbrev FitsIn : ℕ → Answer → Type 0
 FitsIn room (Report n) = width * n ≤ room
 FitsIn room (Refused r) = Unit {0}
 
-pub count-fits : (certificate issuer : List ℕ) (profile : ℕ) (room : List ℕ) (n : ℕ) → answerOf certificate issuer profile room ≡ Report n → width * n ≤ length room
+pub count-fits : (certificate issuer : List ℕ) (profile : ℕ) (room : List ℕ) (n : ℕ) → answerOf certificate issuer profile room ≡ Report n
+    → width * n ≤ length room
 unfolding answerOf answerTo
 count-fits certificate issuer profile room n e = subst (FitsIn (length room)) e (go (judgementOf certificate issuer profile))
   where

@@ -78,9 +78,12 @@ module _ (p : Profile) (s : List ℕ) (k : Known) where
       let c = certificate-inside s in
       let i = key-inside s (certificateOf s .key) (c .key) in
       join-inside on-fields (on-subject ++ (on-key ++ (on-extensions ++ on-values))) (fields-inside p s (certificateOf s) c (k .name))
-      (join-inside on-subject (on-key ++ (on-extensions ++ on-values)) (subject-inside p s (certificateOf s .subject) (length s) (between-spans (c .subject)) (c .subject .ends) alternative)
-      (join-inside on-key (on-extensions ++ on-values) (key-findings-inside p s key (length s) (between-spans (i .algorithm)) (i .algorithm .ends) (between-spans (i .bits)) (i .bits .ends))
-      (join-inside on-extensions on-values (extensions-inside p s (certificateOf s) (startsIn s) (valuesIn s) (c .tbs) (c .extensions) (starts-below s (certificateOf s .extensions) (c .extensions)))
+      (join-inside on-subject (on-key ++ (on-extensions ++ on-values))
+      (subject-inside p s (certificateOf s .subject) (length s) (between-spans (c .subject)) (c .subject .ends) alternative)
+      (join-inside on-key (on-extensions ++ on-values) (key-findings-inside p s key (length s) (between-spans (i .algorithm))
+      (i .algorithm .ends) (between-spans (i .bits)) (i .bits .ends))
+      (join-inside on-extensions on-values (extensions-inside p s (certificateOf s) (startsIn s) (valuesIn s) (c .tbs) (c .extensions)
+      (starts-below s (certificateOf s .extensions) (c .extensions)))
       (values-inside p s (key .kind) (valuesIn s) (k .key)))))
 
 module _ (p : Profile) (s issuer : List ℕ) where
@@ -93,7 +96,8 @@ module _ (p : Profile) (s issuer : List ℕ) where
   findings-inside = known-inside p s (knownOf issuer)
 
   -- of an accepted certificate, in room that suffices
-  pub findings-back : (profile : ℕ) (room : List ℕ) → judgementOf s issuer profile ≡ Accepted p → fits (findings p s issuer) room ≡ true → decode (length (findings p s issuer)) (filled (findings p s issuer) room) ≡ findings p s issuer
+  pub findings-back : (profile : ℕ) (room : List ℕ) → judgementOf s issuer profile ≡ Accepted p → fits (findings p s issuer) room ≡ true
+      → decode (length (findings p s issuer)) (filled (findings p s issuer) room) ≡ findings p s issuer
   findings-back profile room e f =
       let short = accepted-short s issuer profile p e in
       report-back room (findings-ordered (accepted-fits s issuer profile p e)) (omega arith) findings-inside (omega arith) f

@@ -49,7 +49,8 @@ module _ (certificate issuer room : List ℕ) where
       let es = findings p certificate issuer in
       ap (λ (n : ℕ). cond (leb (width * length es) n) (Report (length es)) (Refused NoRoom)) e
 
-  pub answer-room : (profile : ℕ) (other : List ℕ) → length room ≡ length other → answerOf certificate issuer profile room ≡ answerOf certificate issuer profile other
+  pub answer-room : (profile : ℕ) (other : List ℕ) → length room ≡ length other
+      → answerOf certificate issuer profile room ≡ answerOf certificate issuer profile other
   unfolding answerOf
   answer-room profile other e = answer-by (judgementOf certificate issuer profile) other e
 
@@ -64,13 +65,17 @@ module _ (certificate issuer room : List ℕ) where
   -- of findings
   report-to : (es : List Entry) → fits es room ≡ true → reportOf (answerTo es room) (filled es room) ≡ encode es
   unfolding answerTo
-  report-to es t = rw t (ap (λ (l : List ℕ). take (width * length es) l) (filled-written es room t) ∙ take-at (encode es) (drop (width * length es) room) (width * length es) (encode-long es))
+  report-to es t =
+      rw t (ap (λ (l : List ℕ). take (width * length es) l) (filled-written es room t) ∙ take-at (encode es)
+      (drop (width * length es) room) (width * length es) (encode-long es))
 
   report-none : (es : List Entry) → fits es room ≡ false → reportOf (answerTo es room) (filled es room) ≡ []
   unfolding answerTo
   report-none es f = rw f
 
-  pub report-is : (p : Profile) (profile : ℕ) → judgementOf certificate issuer profile ≡ Judgements.Accepted p → fits (findings p certificate issuer) room ≡ true → reportOf (answerOf certificate issuer profile room) (roomOf certificate issuer profile room) ≡ encode (findings p certificate issuer)
+  pub report-is : (p : Profile) (profile : ℕ) → judgementOf certificate issuer profile ≡ Judgements.Accepted p
+      → fits (findings p certificate issuer) room ≡ true
+      → reportOf (answerOf certificate issuer profile room) (roomOf certificate issuer profile room) ≡ encode (findings p certificate issuer)
   unfolding answerOf roomOf
   report-is p profile j t = rw j (report-to (findings p certificate issuer) t)
 
@@ -85,10 +90,14 @@ module _ (certificate issuer room other : List ℕ) (e : length room ≡ length 
       go true t = report-to certificate issuer room es t ∙ sym (report-to certificate issuer other es (same-fit es ∙ t))
       go false f = report-none certificate issuer room es f ∙ sym (report-none certificate issuer other es (same-fit es ∙ f))
 
-  report-by : (j : Judgement) → reportOf (answerBy j certificate issuer room) (roomBy j certificate issuer room) ≡ reportOf (answerBy j certificate issuer other) (roomBy j certificate issuer other)
+  report-by : (j : Judgement)
+      → reportOf (answerBy j certificate issuer room) (roomBy j certificate issuer room) ≡ reportOf (answerBy j certificate issuer other)
+      (roomBy j certificate issuer other)
   report-by (Judgements.Refused r) = refl
   report-by (Judgements.Accepted p) = report-of (findings p certificate issuer)
 
-  pub report-room : (profile : ℕ) → reportOf (answerOf certificate issuer profile room) (roomOf certificate issuer profile room) ≡ reportOf (answerOf certificate issuer profile other) (roomOf certificate issuer profile other)
+  pub report-room : (profile : ℕ)
+      → reportOf (answerOf certificate issuer profile room) (roomOf certificate issuer profile room) ≡ reportOf
+      (answerOf certificate issuer profile other) (roomOf certificate issuer profile other)
   unfolding answerOf roomOf
   report-room profile = report-by (judgementOf certificate issuer profile)

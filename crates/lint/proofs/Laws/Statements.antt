@@ -33,7 +33,8 @@ use Rattle.lint.specs.declared.linting.Answer.the-variants.{Report, Refu
 
 -- ---- S11
 
-pub one-answer : {certificate issuer room last last′ : List ℕ} {profile : ℕ} {r r′ : Answer} → Answered certificate issuer profile room r last → Answered certificate issuer profile room r′ last′ → (r ≡ r′) × (last ≡ last′)
+pub one-answer : {certificate issuer room last last′ : List ℕ} {profile : ℕ} {r r′ : Answer}
+    → Answered certificate issuer profile room r last → Answered certificate issuer profile room r′ last′ → (r ≡ r′) × (last ≡ last′)
 one-answer a b = (a .told ∙ sym (b .told), a .bytes ∙ sym (b .bytes))
 
 -- ---- acceptable sides
@@ -42,7 +43,8 @@ side-accepted : (p : Profile) (side : Side) (s : List ℕ) → Acceptable s → 
 unfolding sideJudgement
 side-accepted p side s a = rw (a .sound, a .fits)
 
-pub accepted : (p : Profile) (certificate issuer : List ℕ) (profile : ℕ) → Acceptable certificate → Acceptable issuer → askedOf profile ≡ For p → judgementOf certificate issuer profile ≡ Judgements.Accepted p
+pub accepted : (p : Profile) (certificate issuer : List ℕ) (profile : ℕ) → Acceptable certificate → Acceptable issuer
+    → askedOf profile ≡ For p → judgementOf certificate issuer profile ≡ Judgements.Accepted p
 unfolding judgementOf admissionOf bothSides
 accepted p certificate issuer profile a b e =
     rw (a .sized, b .sized, e, side-accepted p Certificate certificate a, side-accepted p Issuer issuer b)
@@ -52,20 +54,25 @@ accepted p certificate issuer profile a b e =
 -- refusals 1 to 6 do not tell two acceptable issuers apart
 same-judgement : (certificate i j : List ℕ) (profile : ℕ) → Acceptable i → Acceptable j → judgementOf certificate i profile ≡ judgementOf certificate j profile
 unfolding judgementOf admissionOf bothSides
-same-judgement certificate i j profile a b = rw (a .sized, b .sized) (go (cond (lengthOk (length certificate)) (forProfile (askedOf profile)) (Judgements.Refused Refusals.CertificateLength)))
+same-judgement certificate i j profile a b =
+    rw (a .sized, b .sized) (go (cond (lengthOk (length certificate)) (forProfile (askedOf profile))
+    (Judgements.Refused Refusals.CertificateLength)))
   where
     go : (admission : Judgement) → onceAdmitted admission certificate i ≡ onceAdmitted admission certificate j
     go (Judgements.Refused r) = refl
     go (Judgements.Accepted p) = rw (side-accepted p Issuer i a, side-accepted p Issuer j b)
 
-same-by : (judgement : Judgement) (certificate i j room : List ℕ) → knownOf i ≡ knownOf j → (answerBy judgement certificate i room ≡ answerBy judgement certificate j room) × (roomBy judgement certificate i room ≡ roomBy judgement certificate j room)
+same-by : (judgement : Judgement) (certificate i j room : List ℕ) → knownOf i ≡ knownOf j
+    → (answerBy judgement certificate i room ≡ answerBy judgement certificate j room) ×
+    (roomBy judgement certificate i room ≡ roomBy judgement certificate j room)
 unfolding findings
 same-by (Judgements.Refused r) certificate i j room e = (refl, refl)
 same-by (Judgements.Accepted p) certificate i j room e =
     (ap (λ k. answerTo (findingsFor p certificate k) room) e, ap (λ k. filled (findingsFor p certificate k) room) e)
 
 -- "two accepted issuers that agree in these give the same answer"
-pub same-answer : (certificate i j : List ℕ) (profile : ℕ) (room : List ℕ) → Acceptable i → Acceptable j → knownOf i ≡ knownOf j → (answerOf certificate i profile room ≡ answerOf certificate j profile room) × (roomOf certificate i profile room ≡ roomOf certificate j profile room)
+pub same-answer : (certificate i j : List ℕ) (profile : ℕ) (room : List ℕ) → Acceptable i → Acceptable j → knownOf i ≡ knownOf j
+    → (answerOf certificate i profile room ≡ answerOf certificate j profile room) × (roomOf certificate i profile room ≡ roomOf certificate j profile room)
 unfolding answerOf roomOf
 same-answer certificate i j profile room a b e =
     rw (same-judgement certificate i j profile a b) (same-by (judgementOf certificate j profile) certificate i j room e)
@@ -81,7 +88,9 @@ told-count es room n = go (fits es room)
     go false e = cc
 
 -- the count of an answer is the number of findings
-pub findings-counted : (p : Profile) (certificate issuer : List ℕ) (profile : ℕ) (room : List ℕ) (n : ℕ) → judgementOf certificate issuer profile ≡ Judgements.Accepted p → answerOf certificate issuer profile room ≡ Report n → n ≡ length (findings p certificate issuer)
+pub findings-counted : (p : Profile) (certificate issuer : List ℕ) (profile : ℕ) (room : List ℕ) (n : ℕ)
+    → judgementOf certificate issuer profile ≡ Judgements.Accepted p → answerOf certificate issuer profile room ≡ Report n
+    → n ≡ length (findings p certificate issuer)
 unfolding answerOf
 findings-counted p certificate issuer profile room n j e =
     told-count (findings p certificate issuer) room n (rw j at e)
@@ -96,11 +105,13 @@ refused-to es room r = go (fits es room) refl
     go true f e = cc
     go false f e = filled-short es room f
 
-refused-by : (judgement : Judgement) (certificate issuer room : List ℕ) (r : Refusal) → answerBy judgement certificate issuer room ≡ Refused r → roomBy judgement certificate issuer room ≡ room
+refused-by : (judgement : Judgement) (certificate issuer room : List ℕ) (r : Refusal)
+    → answerBy judgement certificate issuer room ≡ Refused r → roomBy judgement certificate issuer room ≡ room
 refused-by (Judgements.Refused q) certificate issuer room r e = refl
 refused-by (Judgements.Accepted p) certificate issuer room r e = refused-to (findings p certificate issuer) room r e
 
 -- "lent memory unchanged"
-pub room-kept : (certificate issuer : List ℕ) (profile : ℕ) (room : List ℕ) (r : Refusal) → answerOf certificate issuer profile room ≡ Refused r → roomOf certificate issuer profile room ≡ room
+pub room-kept : (certificate issuer : List ℕ) (profile : ℕ) (room : List ℕ) (r : Refusal)
+    → answerOf certificate issuer profile room ≡ Refused r → roomOf certificate issuer profile room ≡ room
 unfolding answerOf roomOf
 room-kept certificate issuer profile room r e = refused-by (judgementOf certificate issuer profile) certificate issuer room r e

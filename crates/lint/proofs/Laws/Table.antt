@@ -68,15 +68,18 @@ keys-joined : (p : Profile) (s : List ℕ) (k : Key) → joined (keyRules p s k)
 unfolding joined keyFindings algorithmFindings rsaFindings
 keys-joined p s k = simp (append-assoc, append-nil)
 
-extensions-joined : (p : Profile) (s : List ℕ) (c : Certificate) (starts values : List ℕ) → joined (extensionRules p s c starts values) ≡ extensionFindings p s c starts values
+extensions-joined : (p : Profile) (s : List ℕ) (c : Certificate) (starts values : List ℕ)
+    → joined (extensionRules p s c starts values) ≡ extensionFindings p s c starts values
 unfolding joined extensionFindings extensionIdentifiers
 extensions-joined p s c starts values = simp (append-assoc, append-nil)
 
-values-joined : (p : Profile) (s : List ℕ) (kind : KeyKind) (values : List ℕ) (key : KeyIdentifier) → joined (valueRules p s kind values key) ≡ valueFindings p s kind values key
+values-joined : (p : Profile) (s : List ℕ) (kind : KeyKind) (values : List ℕ) (key : KeyIdentifier)
+    → joined (valueRules p s kind values key) ≡ valueFindings p s kind values key
 unfolding joined valueFindings identifierFindings usageFindings purposeFindings policyFindings hostFindings accessFindings pointFindings
 values-joined p s kind values key = simp (append-assoc, append-nil)
 
-subjects-joined : (p : Profile) (s : List ℕ) (subject alternative : Head) → joined (subjectRules p s subject alternative) ≡ subjectFindings p s subject alternative
+subjects-joined : (p : Profile) (s : List ℕ) (subject alternative : Head)
+    → joined (subjectRules p s subject alternative) ≡ subjectFindings p s subject alternative
 unfolding joined subjectFindings everySubject organizationFindings stateFindings nameAndSets
 subjects-joined p s subject alternative =
     rw (← only-both (not (isDomain p)) (rule116 s subject) (rule117 s subject), ← only-both (isOrganization p) (rule118 s subject) (rule119 s subject))
@@ -92,7 +95,18 @@ rules-joined p s k =
     let values = valueRules p s (key .kind) (valuesIn s) (k .key) in
     let extensions = extensionRules p s c (startsIn s) (valuesIn s) in
     let subject = subjectRules p s (c .subject) (valueAt s (valuesIn s) 7 .element) in
-    rw (join-lists (fieldRules p s c (k .name)) (subject ++ (keyRules p s key ++ (extensions ++ values))), join-lists subject (keyRules p s key ++ (extensions ++ values)), join-lists (keyRules p s key) (extensions ++ values), join-lists extensions values, fields-joined p s c (k .name), subjects-joined p s (c .subject) (valueAt s (valuesIn s) 7 .element), keys-joined p s key, extensions-joined p s c (startsIn s) (valuesIn s), values-joined p s (key .kind) (valuesIn s) (k .key))
+    rw (
+      join-lists (fieldRules p s c (k .name)) (subject ++ (keyRules p s key ++ (extensions ++ values))),
+      join-lists subject
+          (keyRules p s key ++ (extensions ++ values)),
+      join-lists (keyRules p s key) (extensions ++ values),
+      join-lists extensions values,
+      fields-joined p s c (k .name),
+      subjects-joined p s (c .subject) (valueAt s (valuesIn s) 7 .element),
+      keys-joined p s key,
+      extensions-joined p s c (startsIn s) (valuesIn s),
+      values-joined p s (key .kind) (valuesIn s) (k .key),
+    )
 
 -- an entry is in the report exactly if it is in a rule's list
 pub finding-in : (p : Profile) (s : List ℕ) (k : Known) (e : Entry) → In e (findingsFor p s k) ↔ ((es : List Entry) × In es (allRules p s k) × In e es)

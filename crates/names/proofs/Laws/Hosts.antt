@@ -62,7 +62,9 @@ or-false false = refl
 -- a label is good if it may go on and may end
 good-label : (label : List ℕ) → labelOk label ≡ (growing label && mayEnd (length label) (lastOf 46 label))
 good-label [] = refl
-good-label (b ∷ bs) = rw (ne-eqb (suc (length bs)) 0 (λ e. absurd (omega arith))) (shift (leb (length (b ∷ bs)) 63) (labelOctets (b ∷ bs)) (not (eqb b 45)) (not (eqb (lastOf b bs) 45)))
+good-label (b ∷ bs) =
+    rw (ne-eqb (suc (length bs)) 0 (λ e. absurd (omega arith))) (shift (leb (length (b ∷ bs)) 63) (labelOctets (b ∷ bs)) (not (eqb b 45))
+    (not (eqb (lastOf b bs) 45)))
   where
     shift : (p q r t : Bool) → (p && (q && (r && t))) ≡ ((p && (q && r)) && (true && t))
     shift true true r t = refl
@@ -146,23 +148,28 @@ at-end label dotted = rw (good-label label) (go dotted (growing label) (mayEnd (
     go false true q = refl
     go false false q = refl
 
-at-dot : (label bs : List ℕ) (dotted : Bool) → judged true [] bs ≡ (growing [] && scanned 0 46 true bs) → judged dotted label (46 ∷ bs) ≡ (growing label && scanned (length label) (lastOf 46 label) dotted (46 ∷ bs))
+at-dot : (label bs : List ℕ) (dotted : Bool) → judged true [] bs ≡ (growing [] && scanned 0 46 true bs)
+    → judged dotted label (46 ∷ bs) ≡ (growing label && scanned (length label) (lastOf 46 label) dotted (46 ∷ bs))
 unfolding labelsFrom labelsOk scanned
 at-dot label bs dotted ih =
     let some = labels-some [] bs in
     let two : leb 2 (suc (length (labelsFrom [] bs))) ≡ true = le-leb 2 (suc (length (labelsFrom [] bs))) (omega arith) in
     rw (two, or-true dotted, good-label label, ih) (and-assoc (growing label) (mayEnd (length label) (lastOf 46 label)) (scanned 0 46 true bs))
 
-in-label : (label : List ℕ) (b : ℕ) (bs : List ℕ) (dotted : Bool) → eqb b 46 ≡ false → judged dotted (label ++ (b ∷ [])) bs ≡ (growing (label ++ (b ∷ [])) && scanned (length (label ++ (b ∷ []))) (lastOf 46 (label ++ (b ∷ []))) dotted bs) → judged dotted label (b ∷ bs) ≡ (growing label && scanned (length label) (lastOf 46 label) dotted (b ∷ bs))
+in-label : (label : List ℕ) (b : ℕ) (bs : List ℕ) (dotted : Bool) → eqb b 46 ≡ false
+    → judged dotted (label ++ (b ∷ [])) bs ≡ (growing (label ++ (b ∷ [])) && scanned (length (label ++ (b ∷ []))) (lastOf 46 (label ++ (b ∷ []))) dotted bs)
+    → judged dotted label (b ∷ bs) ≡ (growing label && scanned (length label) (lastOf 46 label) dotted (b ∷ bs))
 unfolding labelsFrom labelsOk scanned
 in-label label b bs dotted e ih =
-    rw (e, ih, growing-more label b, length-more label b, last-more 46 label b, or-false dotted) (and-assoc (growing label) (mayGrow (length label) b) (scanned (length label + 1) b dotted bs))
+    rw (e, ih, growing-more label b, length-more label b, last-more 46 label b, or-false dotted)
+    (and-assoc (growing label) (mayGrow (length label) b) (scanned (length label + 1) b dotted bs))
 
 scan-from : (label bs : List ℕ) (dotted : Bool) → judged dotted label bs ≡ (growing label && scanned (length label) (lastOf 46 label) dotted bs)
 scan-from label [] dotted = at-end label dotted
 scan-from label (b ∷ bs) dotted = go (λ l d. scan-from l bs d) (eqb b 46) refl
   where
-    go : ((l : List ℕ) (d : Bool) → judged d l bs ≡ (growing l && scanned (length l) (lastOf 46 l) d bs)) → (t : Bool) → eqb b 46 ≡ t → judged dotted label (b ∷ bs) ≡ (growing label && scanned (length label) (lastOf 46 label) dotted (b ∷ bs))
+    go : ((l : List ℕ) (d : Bool) → judged d l bs ≡ (growing l && scanned (length l) (lastOf 46 l) d bs)) → (t : Bool) → eqb b 46 ≡ t
+        → judged dotted label (b ∷ bs) ≡ (growing label && scanned (length label) (lastOf 46 label) dotted (b ∷ bs))
     go ih true e = rw (eqb-true b 46 e) (at-dot label bs dotted (ih [] true))
     go ih false e = in-label label b bs dotted e (ih (label ++ (b ∷ [])) dotted)
 
@@ -171,20 +178,24 @@ scan-labels name = scan-from [] name false
 
 -- ---- the pass from the kth octet on
 
-pub scan-done : (s : List ℕ) (size last : ℕ) (dotted : Bool) (body n k : ℕ) → n ≤ k → scanned size last dotted (octetsFrom s (body + k) (n - k)) ≡ (dotted && mayEnd size last)
+pub scan-done : (s : List ℕ) (size last : ℕ) (dotted : Bool) (body n k : ℕ) → n ≤ k
+    → scanned size last dotted (octetsFrom s (body + k) (n - k)) ≡ (dotted && mayEnd size last)
 unfolding scanned
 scan-done s size last dotted body n k l = rw (octets-done s body n k l)
 
 -- b is the kth octet, and good says whether it may follow
 module _ (s : List ℕ) (size last : ℕ) (dotted : Bool) (body n k b : ℕ) (good : Bool) (l : k < n) (e : b ≡ octetAt s (body + k)) (g : good ≡ mayFollow size last b) where
-  scan-split : scanned size last dotted (octetsFrom s (body + k) (n - k)) ≡ (good && scanned (sizeAfter size b) b (dotted || eqb b 46) (octetsFrom s (body + (k + 1)) (n - (k + 1))))
+  scan-split : scanned size last dotted (octetsFrom s (body + k) (n - k)) ≡
+      (good && scanned (sizeAfter size b) b (dotted || eqb b 46) (octetsFrom s (body + (k + 1)) (n - (k + 1))))
   unfolding scanned
   scan-split = rw (octets-next s body n k l, ← e, g)
 
   pub scan-bad : good ≡ false → scanned size last dotted (octetsFrom s (body + k) (n - k)) ≡ false
   scan-bad f = cc scan-split
 
-  pub scan-next : good ≡ true → scanned size last dotted (octetsFrom s (body + k) (n - k)) ≡ scanned (sizeAfter size b) b (dotted || eqb b 46) (octetsFrom s (body + (k + 1)) (n - (k + 1)))
+  pub scan-next : good ≡ true
+      → scanned size last dotted (octetsFrom s (body + k) (n - k)) ≡ scanned (sizeAfter size b) b (dotted || eqb b 46)
+      (octetsFrom s (body + (k + 1)) (n - (k + 1)))
   scan-next f = cc scan-split
 
 pub size-grows : (size b k next : ℕ) → next ≡ sizeAfter size b → size ≤ k → next ≤ k + 1
@@ -199,5 +210,7 @@ size-grows size b k next e l = rw e (go (eqb b 46))
 pub host-long : (s : List ℕ) (body n : ℕ) → 253 < n → Neither ≡ hostOf (octetsFrom s body n)
 host-long s body n l = rw (octets-long s body n, lt-leb n 253 l)
 
-pub host-short : (s : List ℕ) (body n : ℕ) (good : Bool) → n ≤ 253 → good ≡ (leb 2 (length (labelsOf (octetsFrom s body n))) && labelsOk (labelsOf (octetsFrom s body n))) → cond good Plain Neither ≡ hostOf (octetsFrom s body n)
+pub host-short : (s : List ℕ) (body n : ℕ) (good : Bool) → n ≤ 253
+    → good ≡ (leb 2 (length (labelsOf (octetsFrom s body n))) && labelsOk (labelsOf (octetsFrom s body n)))
+    → cond good Plain Neither ≡ hostOf (octetsFrom s body n)
 host-short s body n good l e = rw (octets-long s body n, le-leb n 253 l, e)

@@ -49,7 +49,8 @@ unfolding labelsFrom
 joined-from label [] = at-end label
 joined-from label (b ∷ bs) = go (λ l. joined-from l bs) (eqb b 46) refl
   where
-    go : ((l : List ℕ) → joined (labelsFrom l bs) ≡ (l ++ bs)) → (t : Bool) → eqb b 46 ≡ t → joined (cond t (label ∷ labelsFrom [] bs) (labelsFrom (label ++ (b ∷ [])) bs)) ≡ (label ++ (b ∷ bs))
+    go : ((l : List ℕ) → joined (labelsFrom l bs) ≡ (l ++ bs)) → (t : Bool) → eqb b 46 ≡ t
+        → joined (cond t (label ∷ labelsFrom [] bs) (labelsFrom (label ++ (b ∷ [])) bs)) ≡ (label ++ (b ∷ bs))
     go ih true e = rw (eqb-true b 46 e) (at-dot label bs (ih []))
     go ih false e = ih (label ++ (b ∷ [])) ∙ append-one label b bs
 
@@ -74,7 +75,8 @@ unfolding labelsFrom dotless hasOctet
 dotless-from label [] e = rw e
 dotless-from label (b ∷ bs) e = go (λ l. dotless-from l bs) (eqb b 46) refl
   where
-    go : ((l : List ℕ) → hasOctet 46 l ≡ false → dotless (labelsFrom l bs) ≡ true) → (t : Bool) → eqb b 46 ≡ t → dotless (cond t (label ∷ labelsFrom [] bs) (labelsFrom (label ++ (b ∷ [])) bs)) ≡ true
+    go : ((l : List ℕ) → hasOctet 46 l ≡ false → dotless (labelsFrom l bs) ≡ true) → (t : Bool) → eqb b 46 ≡ t
+        → dotless (cond t (label ∷ labelsFrom [] bs) (labelsFrom (label ++ (b ∷ [])) bs)) ≡ true
     go ih true f = none-dotless label (labelsFrom [] bs) e (ih [] refl)
     go ih false f = ih (label ++ (b ∷ [])) (has-more 46 label b e f)
 

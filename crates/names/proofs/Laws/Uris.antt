@@ -25,11 +25,13 @@ first-octets s at (suc m) (suc n) l = ap (λ (bs : List ℕ). octetAt s at ∷ b
 begins-http : (s : List ℕ) (body n : ℕ) → (ltb 7 n && sameBy lowerCase (octetsFrom s body 7) (word "http://")) ≡ beginsHttp (octetsFrom s body n)
 begins-http s body n = rw (octets-long s body n) (go (ltb 7 n) refl)
   where
-    go : (t : Bool) → ltb 7 n ≡ t → (t && sameBy lowerCase (octetsFrom s body 7) (word "http://")) ≡ (t && sameBy lowerCase (take 7 (octetsFrom s body n)) (word "http://"))
+    go : (t : Bool) → ltb 7 n ≡ t
+        → (t && sameBy lowerCase (octetsFrom s body 7) (word "http://")) ≡ (t && sameBy lowerCase (take 7 (octetsFrom s body n)) (word "http://"))
     go false f = refl
     go true f =
         let l = ltb-true 7 n f in
         rw (first-octets s body 7 n (omega arith))
 
-pub http-read : (s : List ℕ) (h : Head) (uri : Bool) (n : ℕ) (same : Bool) → uri ≡ isUri h → n ≡ h .end - h .body → same ≡ sameBy lowerCase (octetsFrom s (h .body) 7) (octetsFrom (word "http://") 0 7) → (uri && (ltb 7 n && same)) ≡ isHttp s h
+pub http-read : (s : List ℕ) (h : Head) (uri : Bool) (n : ℕ) (same : Bool) → uri ≡ isUri h → n ≡ h .end - h .body
+    → same ≡ sameBy lowerCase (octetsFrom s (h .body) 7) (octetsFrom (word "http://") 0 7) → (uri && (ltb 7 n && same)) ≡ isHttp s h
 http-read s h uri n same e f g = rw (e, f, g, octets-whole (word "http://"), begins-http s (h .body) (h .end - h .body))

@@ -79,7 +79,13 @@ less-numberFrom s h (suc n) i e = go (less-numberFrom s h n (i + 1)) (eqb (octet
         rw (value-top s i n, pow-octet n, eqb-true (octetAt s i) 255 q) (omega (arith, f (rw q at a)))
     go f false q a =
         rw (value-top s i n, pow-octet n)
-        (omega (arith, value-below s h n (i + 1), pow-pos (8 * n), mul-le-mul-right (2 ^ (8 * n)) (not-255 (octetAt s i) (h i) (eqb-false (octetAt s i) 255 q))))
+        (omega (
+          arith,
+          value-below s h n (i + 1),
+          pow-pos (8 * n),
+          mul-le-mul-right (2 ^ (8 * n))
+              (not-255 (octetAt s i) (h i) (eqb-false (octetAt s i) 255 q)),
+        ))
 
 under : (v a c : ℕ) → v < 2 ^ a → a + 1 ≤ c → v < 2 ^ c - 1
 under v a c h l = omega (arith, pow-pos a, grown)

@@ -46,7 +46,8 @@ leads-by s (suc n) i end e = go (leads-by s n (i + 1) end (omega arith)) (eqb (o
     go l true z =
         let k : i < end = omega arith in
         let z₀ : octetAt s i ≡ 0 = eqb-true (octetAt s i) 0 z in
-        let f : number s i end ≡ number s (i + 1) end = number-first s 0 i end k ∙ ap (λ (x : ℕ). numberFrom (256 * 0 + x) (octetsFrom s (i + 1) (end - (i + 1)))) z₀ in
+        let f : number s i end ≡ number s (i + 1) end = number-first s 0 i end k ∙ ap
+        (λ (x : ℕ). numberFrom (256 * 0 + x) (octetsFrom s (i + 1) (end - (i + 1)))) z₀ in
         rw (lead-step s i end (octetAt s i) k refl z₀) (record { same = l .same ∙ sym f; above = l .above })
     go l false z =
         let k : i < end = omega arith in

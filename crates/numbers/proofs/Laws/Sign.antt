@@ -62,7 +62,8 @@ module _ (s : List ℕ) (body end p : ℕ) (h : Bytes s) (e : p ≡ leadOf s bod
           rw f (sign (ltb (octetAt s body) 128) (ltb p end) _ _ (rw f at above-zero) (rw f at less))
       go false t = let f = octets-none s body end (ltb-false body end t) in rw (above-zero, f)
 
-pub positive-number : (s : List ℕ) (body end : ℕ) → Bytes s → isPositive (integerOf (octetsFrom s body (end - body))) ≡ true → integerOf (octetsFrom s body (end - body)) ≡ pos (number s body end)
+pub positive-number : (s : List ℕ) (body end : ℕ) → Bytes s → isPositive (integerOf (octetsFrom s body (end - body))) ≡ true
+    → integerOf (octetsFrom s body (end - body)) ≡ pos (number s body end)
 unfolding integerOf numberFrom
 positive-number s body end h t = go (ltb body end) refl
   where

@@ -66,6 +66,7 @@ pub number-none : (s : List ℕ) (p end : ℕ) → end ≤ p → number s p end 
 unfolding numberFrom
 number-none s p end h = rw (octets-none s p end h)
 
-pub number-first : (s : List ℕ) (n i end : ℕ) → i < end → numberFrom n (octetsFrom s i (end - i)) ≡ numberFrom (256 * n + octetAt s i) (octetsFrom s (i + 1) (end - (i + 1)))
+pub number-first : (s : List ℕ) (n i end : ℕ) → i < end
+    → numberFrom n (octetsFrom s i (end - i)) ≡ numberFrom (256 * n + octetAt s i) (octetsFrom s (i + 1) (end - (i + 1)))
 unfolding numberFrom
 number-first s n i end h = rw (octets-first s i end h)

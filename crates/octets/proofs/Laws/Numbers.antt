@@ -46,6 +46,7 @@ pub number-done : (s : List ℕ) (at n k value : ℕ) → n ≤ k → numberFrom
 unfolding numberFrom
 number-done s at n k value h = rw (octets-done s at n k h)
 
-pub number-next : (s : List ℕ) (at n k value next b : ℕ) → k < n → b ≡ octetAt s (at + k) → next ≡ min (256 * value + b) largest → min (numberFrom value (octetsFrom s (at + k) (n - k))) largest ≡ min (numberFrom next (octetsFrom s (at + (k + 1)) (n - (k + 1)))) largest
+pub number-next : (s : List ℕ) (at n k value next b : ℕ) → k < n → b ≡ octetAt s (at + k) → next ≡ min (256 * value + b) largest
+    → min (numberFrom value (octetsFrom s (at + k) (n - k))) largest ≡ min (numberFrom next (octetsFrom s (at + (k + 1)) (n - (k + 1)))) largest
 unfolding numberFrom
 number-next s at n k value next b h e f = rw (octets-next s at n k h, ← e, f) (number-cut (256 * value + b) (octetsFrom s (at + (k + 1)) (n - (k + 1))))

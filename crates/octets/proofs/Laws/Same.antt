@@ -21,7 +21,9 @@ same-done f s t a b n k h = rw (octets-done s a n k h, octets-done t b n k h)
 
 -- x and y are the kth octets, as they are compared
 module _ (f : ℕ → ℕ) (s t : List ℕ) (a b n k x y : ℕ) (h : k < n) (p : x ≡ f (octetAt s (a + k))) (q : y ≡ f (octetAt t (b + k))) where
-  pub same-next : x ≡ y → sameBy f (octetsFrom s (a + k) (n - k)) (octetsFrom t (b + k) (n - k)) ≡ sameBy f (octetsFrom s (a + (k + 1)) (n - (k + 1))) (octetsFrom t (b + (k + 1)) (n - (k + 1)))
+  pub same-next : x ≡ y
+      → sameBy f (octetsFrom s (a + k) (n - k)) (octetsFrom t (b + k) (n - k)) ≡ sameBy f (octetsFrom s (a + (k + 1)) (n - (k + 1)))
+      (octetsFrom t (b + (k + 1)) (n - (k + 1)))
   unfolding sameBy
   same-next e = rw (octets-next s a n k h, octets-next t b n k h, ← p, ← q, eq-eqb x y e)
 

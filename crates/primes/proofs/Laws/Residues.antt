@@ -79,11 +79,13 @@ same-step B r w m =
 
 -- ---- four octets
 
-next-at : (s : List ℕ) (n i j end : ℕ) → i < end → i + 1 ≡ j → numberFrom n (octetsFrom s i (end - i)) ≡ numberFrom (256 * n + octetAt s i) (octetsFrom s j (end - j))
+next-at : (s : List ℕ) (n i j end : ℕ) → i < end → i + 1 ≡ j
+    → numberFrom n (octetsFrom s i (end - i)) ≡ numberFrom (256 * n + octetAt s i) (octetsFrom s j (end - j))
 next-at s n i j end h e =
     number-first s n i end h ∙ ap (λ (k : ℕ). numberFrom (256 * n + octetAt s i) (octetsFrom s k (end - k))) e
 
-word-numberFrom : (s : List ℕ) (n i end : ℕ) → i + 4 ≤ end → numberFrom n (octetsFrom s i (end - i)) ≡ numberFrom (2 ^ 32 * n + wordAt s i) (octetsFrom s (i + 4) (end - (i + 4)))
+word-numberFrom : (s : List ℕ) (n i end : ℕ) → i + 4 ≤ end
+    → numberFrom n (octetsFrom s i (end - i)) ≡ numberFrom (2 ^ 32 * n + wordAt s i) (octetsFrom s (i + 4) (end - (i + 4)))
 word-numberFrom s n i end h =
     let x₁ = 256 * n + octetAt s i in
     let x₂ = 256 * x₁ + octetAt s (i + 1) in

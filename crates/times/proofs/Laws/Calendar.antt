@@ -70,7 +70,8 @@ year-sum (suc y) =
     let a : suc y + 3 ≡ y + 4 = omega arith in
     let b : suc y + 99 ≡ y + 100 = omega arith in
     let c : suc y + 399 ≡ y + 400 = omega arith in
-    rw (a, b, c) (year-step y (beforeYear y) (cond (leapYear y) 1 0) ((y + 3) / 4) ((y + 4) / 4) ((y + 99) / 100) ((y + 100) / 100) ((y + 399) / 400) ((y + 400) / 400) (year-sum y) (leap-adds y))
+    rw (a, b, c) (year-step y (beforeYear y) (cond (leapYear y) 1 0) ((y + 3) / 4) ((y + 4) / 4) ((y + 99) / 100) ((y + 100) / 100)
+    ((y + 399) / 400) ((y + 400) / 400) (year-sum y) (leap-adds y))
 
 pub year-count : (y : ℕ) → 365 * y + (y + 3) / 4 - (y + 99) / 100 + (y + 399) / 400 ≡ beforeYear y
 year-count y = go ((y + 3) / 4) ((y + 99) / 100) ((y + 399) / 400) (year-sum y) (omega arith)

@@ -40,6 +40,7 @@ below-law arc s a n = go (ltb (length arc) n) refl
     go true e = below-long arc s a n (ltb-true (length arc) n e)
     go false e = sym (below-short arc s a n (ltb-false (length arc) n e))
 
-pub policy-law : (s : List ℕ) (h policy : Head) (n : ℕ) (begins : Bool) → policy ≡ firstIn s h → n ≡ policy .end - policy .body → begins ≡ sameBy exactly (octetsFrom s (policy .body) 9) federalArc → (ltb 9 n && begins) ≡ policyBelow s h
+pub policy-law : (s : List ℕ) (h policy : Head) (n : ℕ) (begins : Bool) → policy ≡ firstIn s h → n ≡ policy .end - policy .body
+    → begins ≡ sameBy exactly (octetsFrom s (policy .body) 9) federalArc → (ltb 9 n && begins) ≡ policyBelow s h
 unfolding policyBelow
 policy-law s h policy n begins e f g = rw (g, f, ← e) (below-law federalArc s (policy .body) (policy .end - policy .body))

@@ -66,10 +66,15 @@ unfolding allBelow same anyBelow
 all-octets = refl
 
 pub octet-bits : (b : ℕ) → b < 256 → not (eqb b 0) ≡ anyBelow (bitAt (b ∷ [])) 8
-octet-bits b h = same-true (not (eqb b 0)) (anyBelow (bitAt (b ∷ [])) 8) (all-below (λ b. same (not (eqb b 0)) (anyBelow (bitAt (b ∷ [])) 8)) 256 b all-octets h)
+octet-bits b h =
+    same-true (not (eqb b 0)) (anyBelow (bitAt (b ∷ [])) 8) (all-below (λ b. same (not (eqb b 0)) (anyBelow (bitAt (b ∷ [])) 8)) 256 b
+    all-octets h)
 
 -- the bits by their weight, from 1 to 64; bit 0, of weight 128, may be set
-pub first-bits : (b allowed : ℕ) → (oddAlone b allowed || (oddAlone (b / 2) (allowed / 2) || (oddAlone (b / 4) (allowed / 4) || (oddAlone (b / 8) (allowed / 8) || (oddAlone (b / 16) (allowed / 16) || (oddAlone (b / 32) (allowed / 32) || oddAlone (b / 64) (allowed / 64))))))) ≡ anyBelow (otherBit (b ∷ []) allowed) 8
+pub first-bits : (b allowed : ℕ)
+    → (oddAlone b allowed || (oddAlone (b / 2) (allowed / 2) || (oddAlone (b / 4) (allowed / 4) ||
+    (oddAlone (b / 8) (allowed / 8) || (oddAlone (b / 16) (allowed / 16) ||
+    (oddAlone (b / 32) (allowed / 32) || oddAlone (b / 64) (allowed / 64))))))) ≡ anyBelow (otherBit (b ∷ []) allowed) 8
 unfolding anyBelow
 first-bits b allowed = rw (div-one b, div-one allowed, or-false (oddAlone (b / 64) (allowed / 64)))
 
@@ -88,7 +93,8 @@ bit-other : (b allowed : ℕ) (bits : List ℕ) (k : ℕ) → otherBit (b ∷ bi
 bit-other b allowed bits k = rw (bit-later allowed [] k, no-bit k, bit-later b bits k, ne-eqb (8 + k) 0 (λ e. omega arith))
 
 -- a test of the bits of b and of those after it, which of these says what g says
-octet-next : (f g : ℕ → Bool) (b : ℕ) (bits : List ℕ) → ((k : ℕ) → f (8 + k) ≡ g k) → anyBelow f (8 * length (b ∷ bits)) ≡ (anyBelow g (8 * length bits) || anyBelow f 8)
+octet-next : (f g : ℕ → Bool) (b : ℕ) (bits : List ℕ) → ((k : ℕ) → f (8 + k) ≡ g k)
+    → anyBelow f (8 * length (b ∷ bits)) ≡ (anyBelow g (8 * length bits) || anyBelow f 8)
 octet-next f g b bits h =
     let e : 8 * length (b ∷ bits) ≡ 8 + 8 * length bits = omega arith in
     ap (anyBelow f) e
@@ -136,7 +142,8 @@ more-octets s body (suc (suc n)) h =
     let f : suc (suc n) - 2 ≡ n = omega arith in
     rw (e, f)
 
-pub signed-law : (s : List ℕ) (body n b : ℕ) → b ≡ octetAt s (body + 1) → (ltb n 2 || not (eqb (b / 128 % 2) 1)) ≡ not (bitAt (bitOctets (octetsFrom s body n)) 0)
+pub signed-law : (s : List ℕ) (body n b : ℕ) → b ≡ octetAt s (body + 1)
+    → (ltb n 2 || not (eqb (b / 128 % 2) 1)) ≡ not (bitAt (bitOctets (octetsFrom s body n)) 0)
 unfolding octetsFrom
 signed-law s body zero b e = refl
 signed-law s body (suc zero) b e = refl
@@ -153,5 +160,6 @@ module _ (s : List ℕ) (body n b allowed : ℕ) (first : Bool) (h : 2 ≤ n) (e
   pub other-first : first ≡ true → true ≡ otherBits (bitOctets (octetsFrom s body n)) allowed
   other-first t = sym (other-split ∙ rw t (or-true (anySet (octetsFrom s (body + 2) (n - 2)))))
 
-  pub other-later : (later : Bool) → first ≡ false → later ≡ anySet (octetsFrom s (body + 2) (n - 2)) → later ≡ otherBits (bitOctets (octetsFrom s body n)) allowed
+  pub other-later : (later : Bool) → first ≡ false → later ≡ anySet (octetsFrom s (body + 2) (n - 2))
+      → later ≡ otherBits (bitOctets (octetsFrom s body n)) allowed
   other-later later t l = l ∙ sym (other-split ∙ rw t (or-false (anySet (octetsFrom s (body + 2) (n - 2)))))

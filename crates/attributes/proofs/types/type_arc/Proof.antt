@@ -19,7 +19,8 @@ returns c =
     let p = c .before .before in
     let q = p .before in
     let a = q .before .before .args in
-    c .octet-past2 .ensures ∙ rw (c .before .if1 .taken) at (arc-read (a .s .now) (a .body) (a .n) (q .octet .result) (p .octet-past .result) (q .octet .ensures) (p .octet-past .ensures))
+    c .octet-past2 .ensures ∙ rw (c .before .if1 .taken) at (arc-read (a .s .now) (a .body) (a .n) (q .octet .result)
+    (p .octet-past .result) (q .octet .ensures) (p .octet-past .ensures))
 
 returns-2 : tie.Need-returns-2
 returns-2 c =

@@ -28,7 +28,18 @@ returns-8 : tie.Need-returns-8
 returns-8 c = rw (c .match .keys8)
 
 returns-9 : tie.Need-returns-9
-returns-9 c = let r = c .match .rest in rw (ne-eqb _ 35 (r .0 .0 .0 .0 .0 .0 .0 .1), ne-eqb _ 19 (r .0 .0 .0 .0 .0 .0 .1), ne-eqb _ 14 (r .0 .0 .0 .0 .0 .1), ne-eqb _ 15 (r .0 .0 .0 .0 .1), ne-eqb _ 37 (r .0 .0 .0 .1), ne-eqb _ 32 (r .0 .0 .1), ne-eqb _ 17 (r .0 .1), ne-eqb _ 31 (r .1))
+returns-9 c =
+    let r = c .match .rest in rw (
+      ne-eqb _ 35 (r .0 .0 .0 .0 .0 .0 .0 .1),
+      ne-eqb _ 19 (r .0 .0 .0 .0 .0 .0 .1),
+      ne-eqb _ 14
+          (r .0 .0 .0 .0 .0 .1),
+      ne-eqb _ 15 (r .0 .0 .0 .0 .1),
+      ne-eqb _ 37 (r .0 .0 .0 .1),
+      ne-eqb _ 32 (r .0 .0 .1),
+      ne-eqb _ 17 (r .0 .1),
+      ne-eqb _ 31 (r .1),
+    )
 
 pub slot-by-spec : {M : Type 1} → statement M
 slot-by-spec =

@@ -29,14 +29,16 @@ returns c =
     let b = t .before in
     let o = b .before in
     let a = o .before .before .before .args in
-    c .slot-by .ensures ∙ sym (slot-three (a .s .now) (a .body) (a .n) _ _ _ (o .before .if1 .taken) (o .octet .ensures) (b .octet-past .ensures) (d .octet-past2 .ensures) ∙ ap (λ (x : Bool). cond x (slotBy (d .octet-past2 .result)) 0) (t .if2 .taken))
+    c .slot-by .ensures ∙ sym (slot-three (a .s .now) (a .body) (a .n) _ _ _ (o .before .if1 .taken) (o .octet .ensures)
+    (b .octet-past .ensures) (d .octet-past2 .ensures) ∙ ap (λ (x : Bool). cond x (slotBy (d .octet-past2 .result)) 0) (t .if2 .taken))
 
 returns-2 : tie.Need-returns-2
 returns-2 c =
     let b = c .before in
     let o = b .before in
     let a = o .before .before .before .args in
-    sym (slot-three (a .s .now) (a .body) (a .n) _ _ (octetAt (a .s .now) (a .body + 2)) (o .before .if1 .taken) (o .octet .ensures) (b .octet-past .ensures) refl ∙ ap (λ (x : Bool). cond x (slotBy (octetAt (a .s .now) (a .body + 2))) 0) (c .if2 .left))
+    sym (slot-three (a .s .now) (a .body) (a .n) _ _ (octetAt (a .s .now) (a .body + 2)) (o .before .if1 .taken) (o .octet .ensures)
+    (b .octet-past .ensures) refl ∙ ap (λ (x : Bool). cond x (slotBy (octetAt (a .s .now) (a .body + 2))) 0) (c .if2 .left))
 
 slice-aggregate-equals : tie.Need-slice-aggregate-equals
 slice-aggregate-equals c = search needs
@@ -49,7 +51,9 @@ returns-3 c =
     let e = c .before in
     let i = e .before .before in
     let a = i .before .before .args in
-    sym (slot-other (a .s .now) (a .body) (a .n) _ (sameBy exactly (octetsFrom (a .s .now) (a .body) (a .n)) nocheck) (i .if1 .left) (e .equals .ensures) refl ∙ ap (λ (x : Bool). cond x 8 (cond (sameBy exactly (octetsFrom (a .s .now) (a .body) (a .n)) nocheck) 10 0)) (c .if3 .taken))
+    sym (slot-other (a .s .now) (a .body) (a .n) _ (sameBy exactly (octetsFrom (a .s .now) (a .body) (a .n)) nocheck) (i .if1 .left)
+    (e .equals .ensures) refl ∙ ap (λ (x : Bool). cond x 8 (cond (sameBy exactly (octetsFrom (a .s .now) (a .body) (a .n)) nocheck) 10 0))
+    (c .if3 .taken))
 
 slice-aggregate-equals-2 : tie.Need-slice-aggregate-equals-2
 slice-aggregate-equals-2 c = search needs
@@ -64,7 +68,8 @@ returns-4 c =
     let e = t .before in
     let i = e .before .before in
     let a = i .before .before .args in
-    sym (slot-other (a .s .now) (a .body) (a .n) _ _ (i .if1 .left) (e .equals .ensures) (f .equals2 .ensures) ∙ (λ k. cond (t .if3 .left k) 8 (cond (c .if4 .taken k) 10 0)))
+    sym (slot-other (a .s .now) (a .body) (a .n) _ _ (i .if1 .left) (e .equals .ensures) (f .equals2 .ensures) ∙
+    (λ k. cond (t .if3 .left k) 8 (cond (c .if4 .taken k) 10 0)))
 
 returns-5 : tie.Need-returns-5
 returns-5 c =
@@ -73,7 +78,8 @@ returns-5 c =
     let e = t .before in
     let i = e .before .before in
     let a = i .before .before .args in
-    sym (slot-other (a .s .now) (a .body) (a .n) _ _ (i .if1 .left) (e .equals .ensures) (f .equals2 .ensures) ∙ (λ k. cond (t .if3 .left k) 8 (cond (c .if4 .left k) 10 0)))
+    sym (slot-other (a .s .now) (a .body) (a .n) _ _ (i .if1 .left) (e .equals .ensures) (f .equals2 .ensures) ∙
+    (λ k. cond (t .if3 .left k) 8 (cond (c .if4 .left k) 10 0)))
 
 pub slot-for-spec : {M : Type 1} → statement M
 slot-for-spec =

@@ -61,7 +61,9 @@ returns c =
     let v = e .before in
     let t = v .before in
     let w = t .before in
-    read-law (w .before .before .args .s .now) _ _ _ _ _ _ _ _ _ _ _ _ _ _ (w .head-any .ensures) (t .head-any2 .ensures) (v .first-in .ensures) (e .past .ensures) (n .after .ensures) (i .after2 .ensures) (p .after3 .ensures) (b .first-in2 .ensures) (y .after4 .ensures) (u .after5 .ensures) (k .after6 .ensures) (l .list-after .ensures) (x .after7 .ensures) (c .validity-of .ensures)
+    read-law (w .before .before .args .s .now) _ _ _ _ _ _ _ _ _ _ _ _ _ _ (w .head-any .ensures) (t .head-any2 .ensures)
+    (v .first-in .ensures) (e .past .ensures) (n .after .ensures) (i .after2 .ensures) (p .after3 .ensures) (b .first-in2 .ensures)
+    (y .after4 .ensures) (u .after5 .ensures) (k .after6 .ensures) (l .list-after .ensures) (x .after7 .ensures) (c .validity-of .ensures)
 
 pub read-spec : {M : Type 1} → statement M
 read-spec =

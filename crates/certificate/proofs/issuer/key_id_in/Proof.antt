@@ -40,8 +40,10 @@ returns c =
     let f = n .before .before in
     let a = f .before .before .args in
     let hs = childrenOf (a .i .now) (a .list .body) (a .list .end) in
-    let third : n .number-at .result ≡ startIn (a .i .now) hs 3 = n .number-at .ensures ∙ (ap (λ (l : List ℕ). getD l 3 0) (f .first-extensions .ensures) ∙ start-at (a .i .now) hs 3 (omega arith)) in
-    c .first-in .ensures ∙ ap (firstIn (a .i .now)) (o .holder-at .ensures ∙ ap (holderAt (a .i .now)) (g .good-start .ensures ∙ ap (goodStart (a .i .now) (a .list .end) 3) third))
+    let third : n .number-at .result ≡ startIn (a .i .now) hs 3 = n .number-at .ensures ∙
+    (ap (λ (l : List ℕ). getD l 3 0) (f .first-extensions .ensures) ∙ start-at (a .i .now) hs 3 (omega arith)) in
+    c .first-in .ensures ∙ ap (firstIn (a .i .now)) (o .holder-at .ensures ∙ ap (holderAt (a .i .now))
+    (g .good-start .ensures ∙ ap (goodStart (a .i .now) (a .list .end) 3) third))
 
 pub key-id-in-spec : {M : Type 1} → statement M
 key-id-in-spec =

@@ -57,7 +57,8 @@ loop-again c =
     let h = k .before in
     let p = h .before .before in
     let a = p .before .before .args in
-    filled-next (a .s .now) _ (p .loop .starts) (p .loop .i) (a .list .end) _ _ _ (h .before .loop-test .taken) (h .head-at .ensures) (k .slot-of .ensures) (c .or-else .ensures) (p .loop .inv)
+    filled-next (a .s .now) _ (p .loop .starts) (p .loop .i) (a .list .end) _ _ _ (h .before .loop-test .taken) (h .head-at .ensures)
+    (k .slot-of .ensures) (c .or-else .ensures) (p .loop .inv)
 
 returns : tie.Need-returns Inv-loop μ-loop
 returns c =

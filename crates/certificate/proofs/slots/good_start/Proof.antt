@@ -24,7 +24,8 @@ returns-2 c =
     let x = g .before .before in
     let h = x .before in
     let a = h .before .before .before .args in
-    ap (λ (b : Bool). cond b (x .extension-of .result .value .at) 0) (sym (c .if2 .taken)) ∙ good-some (a .s .now) (a .end) (a .slot) (a .at) _ _ _ (h .before .if1 .left) (h .head-at .ensures) (x .extension-of .ensures) (g .value-ok .ensures)
+    ap (λ (b : Bool). cond b (x .extension-of .result .value .at) 0) (sym (c .if2 .taken)) ∙ good-some (a .s .now) (a .end) (a .slot)
+    (a .at) _ _ _ (h .before .if1 .left) (h .head-at .ensures) (x .extension-of .ensures) (g .value-ok .ensures)
 
 returns-3 : tie.Need-returns-3
 returns-3 c =
@@ -32,7 +33,8 @@ returns-3 c =
     let x = g .before .before in
     let h = x .before in
     let a = h .before .before .before .args in
-    ap (λ (b : Bool). cond b (x .extension-of .result .value .at) 0) (sym (c .if2 .left)) ∙ good-some (a .s .now) (a .end) (a .slot) (a .at) _ _ _ (h .before .if1 .left) (h .head-at .ensures) (x .extension-of .ensures) (g .value-ok .ensures)
+    ap (λ (b : Bool). cond b (x .extension-of .result .value .at) 0) (sym (c .if2 .left)) ∙ good-some (a .s .now) (a .end) (a .slot)
+    (a .at) _ _ _ (h .before .if1 .left) (h .head-at .ensures) (x .extension-of .ensures) (g .value-ok .ensures)
 
 pub good-start-spec : {M : Type 1} → statement M
 good-start-spec =

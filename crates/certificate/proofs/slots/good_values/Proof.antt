@@ -41,8 +41,11 @@ loop-again c =
     let n = c .before in
     let p = n .before .before in
     let a = p .before .before .before .args in
-    let good : ℕ → ℕ = λ (k : ℕ). goodStart (a .s .now) (a .end) k (getD (a .starts .now) k 0) in
-    (omega arith, valued-next good (p .loop .values) (p .loop .slot) _ (n .before .loop-test .taken) (c .good-start .ensures ∙ ap (goodStart (a .s .now) (a .end) (p .loop .slot)) (n .number-at .ensures)) (p .loop .inv .1))
+    let good : ℕ → ℕ = λ (k : ℕ). goodStart (a .s .now) (a .end) k (getD (a .starts .now) k 0) in (
+      omega arith,
+      valued-next good (p .loop .values) (p .loop .slot) _ (n .before .loop-test .taken)
+          (c .good-start .ensures ∙ ap (goodStart (a .s .now) (a .end) (p .loop .slot)) (n .number-at .ensures)) (p .loop .inv .1),
+    )
 
 returns : tie.Need-returns Inv-loop μ-loop
 unfolding valuesOf

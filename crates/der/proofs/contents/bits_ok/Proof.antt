@@ -25,7 +25,8 @@ returns c =
     let m = l .before in
     let o = m .before in
     let a = o .before .before .args in
-    bits-law (a .s .now) (a .body) (a .n) (o .octet .result) (l .octet-past .result) (c .low-zero .result) (o .octet .ensures) (l .octet-past .ensures ∙ ap (λ (k : ℕ). octetAt (a .s .now) (a .body + k)) (m .minus .ensures)) (c .low-zero .ensures)
+    bits-law (a .s .now) (a .body) (a .n) (o .octet .result) (l .octet-past .result) (c .low-zero .result) (o .octet .ensures)
+    (l .octet-past .ensures ∙ ap (λ (k : ℕ). octetAt (a .s .now) (a .body + k)) (m .minus .ensures)) (c .low-zero .ensures)
 
 pub bits-ok-spec : {M : Type 1} → statement M
 bits-ok-spec =

@@ -15,7 +15,8 @@ returns c =
     let m = c .before in
     let t = m .before in
     let a = t .before .before .before .args in
-    element-universal (a .s .now) (a .h) (c .universal-ok .result) (m .minus .result) (t .before .if1 .taken) (t .if2 .taken) (m .minus .ensures) (c .universal-ok .ensures)
+    element-universal (a .s .now) (a .h) (c .universal-ok .result) (m .minus .result) (t .before .if1 .taken) (t .if2 .taken)
+    (m .minus .ensures) (c .universal-ok .ensures)
 
 returns-2 : tie.Need-returns-2
 returns-2 c =

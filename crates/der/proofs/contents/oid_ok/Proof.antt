@@ -28,7 +28,8 @@ returns-2 : tie.Need-returns-2 Inv-loop μ-loop
 returns-2 c =
     let p = c .before .before .before in
     let a = p .before .before .before .args in
-    sym (p .loop .inv ∙ arcs-bad (a .s .now) (a .body) (a .n) (p .loop .k) (p .loop .fresh) (c .before .octet-past .result) (c .before .before .loop-test .taken) (c .before .octet-past .ensures) (c .if2 .taken))
+    sym (p .loop .inv ∙ arcs-bad (a .s .now) (a .body) (a .n) (p .loop .k) (p .loop .fresh) (c .before .octet-past .result)
+    (c .before .before .loop-test .taken) (c .before .octet-past .ensures) (c .if2 .taken))
 
 add-k : tie.Need-add-k Inv-loop μ-loop
 add-k c = omega arith
@@ -40,7 +41,8 @@ loop-again : tie.Need-loop-again Inv-loop μ-loop
 loop-again c =
     let p = c .before .before .before in
     let a = p .before .before .before .args in
-    p .loop .inv ∙ arcs-good (a .s .now) (a .body) (a .n) (p .loop .k) (p .loop .fresh) (c .before .octet-past .result) (c .before .before .loop-test .taken) (c .before .octet-past .ensures) (c .if2 .left)
+    p .loop .inv ∙ arcs-good (a .s .now) (a .body) (a .n) (p .loop .k) (p .loop .fresh) (c .before .octet-past .result)
+    (c .before .before .loop-test .taken) (c .before .octet-past .ensures) (c .if2 .left)
 
 returns-3 : tie.Need-returns-3 Inv-loop μ-loop
 returns-3 c =

@@ -48,7 +48,8 @@ returns-6 : tie.Need-returns-6
 returns-6 c =
     let a = c .before .before .before .args in
     let r = c .before .match .rest in
-    ap not (c .holds-elements .ensures) ∙ sym (number-other (a .number) (octetsFrom (a .s .now) (a .body) (a .n)) (r .0 .0 .0 .0 .1) (r .0 .0 .0 .1) (r .0 .0 .1) (r .0 .1) (r .1))
+    ap not (c .holds-elements .ensures) ∙ sym (number-other (a .number) (octetsFrom (a .s .now) (a .body) (a .n)) (r .0 .0 .0 .0 .1)
+    (r .0 .0 .0 .1) (r .0 .0 .1) (r .0 .1) (r .1))
 
 pub primitive-ok-spec : {M : Type 1} → statement M
 primitive-ok-spec =

@@ -43,7 +43,9 @@ returns c =
     let h = l .before in
     let f = h .before in
     let a = f .before .before .args in
-    c .head-if .ensures ∙ head-read (a .s .now) (a .at) (a .end) (o .octet .result) (f .octet-past .result) (w .wide .result) (h .octet-past2 .result) (l .length-at .result) (g .long-ok .result) (omega arith) (o .octet .ensures) (f .octet-past .ensures) (w .wide .ensures .0 ∙ m .more-octets .ensures) (h .octet-past2 .ensures) (l .length-at .ensures) (g .long-ok .ensures)
+    c .head-if .ensures ∙ head-read (a .s .now) (a .at) (a .end) (o .octet .result) (f .octet-past .result) (w .wide .result)
+    (h .octet-past2 .result) (l .length-at .result) (g .long-ok .result) (omega arith) (o .octet .ensures) (f .octet-past .ensures)
+    (w .wide .ensures .0 ∙ m .more-octets .ensures) (h .octet-past2 .ensures) (l .length-at .ensures) (g .long-ok .ensures)
 
 pub head-any-spec : {M : Type 1} → statement M
 head-any-spec =

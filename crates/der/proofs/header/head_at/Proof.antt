@@ -40,7 +40,9 @@ returns c =
     let w = c .before in
     let k = w .before .before .before .before in
     let a = k .before .before .before .before .args in
-    c .head-if .ensures ∙ (ap (headIf true (a .at) (a .end) (octetAt (a .s .now) (a .at)) 2) (w .wide .ensures .0) ∙ head-short (a .s .now) (a .at) (a .end) (octetAt (a .s .now) (a .at)) (octetAt (a .s .now) (a .at + 1)) (k .before .before .if1 .taken) refl refl (w .before .if3 .taken))
+    c .head-if .ensures ∙ (ap (headIf true (a .at) (a .end) (octetAt (a .s .now) (a .at)) 2) (w .wide .ensures .0) ∙ head-short (a .s .now)
+    (a .at) (a .end) (octetAt (a .s .now) (a .at)) (octetAt (a .s .now) (a .at + 1)) (k .before .before .if1 .taken) refl refl
+    (w .before .if3 .taken))
 
 head-any-requires : tie.Need-head-any-requires
 head-any-requires c κs = search needs

@@ -17,7 +17,9 @@ tag-ok-requires : tie.Need-tag-ok-requires
 tag-ok-requires c κs = search needs
 
 -- where all tests passed the element ends before `end`
-inside : (c : tie.Then1) → c .before .before .before .args .at + (c .before .before .before .args .skip + c .before .before .before .args .len) ≤ c .before .before .before .args .end
+inside : (c : tie.Then1)
+    → c .before .before .before .args .at + (c .before .before .before .args .skip + c .before .before .before .args .len) ≤ c .before
+    .before .before .args .end
 inside c =
     let f = c .before .before in
     let a = f .before .args in
@@ -37,7 +39,8 @@ returns : tie.Need-returns
 returns c =
     let f = c .before .before in
     let a = f .before .args in
-    head-whole (a .good) (a .at) (a .end) (a .tag) (a .skip) (a .len) (c .before .tag-ok .result) (f .fits2 .result) (c .before .tag-ok .ensures) (f .fits2 .ensures) (c .if1 .taken)
+    head-whole (a .good) (a .at) (a .end) (a .tag) (a .skip) (a .len) (c .before .tag-ok .result) (f .fits2 .result)
+    (c .before .tag-ok .ensures) (f .fits2 .ensures) (c .if1 .taken)
 
 broken-head-requires : tie.Need-broken-head-requires
 broken-head-requires c κs = search needs
@@ -46,7 +49,8 @@ returns-2 : tie.Need-returns-2
 returns-2 c =
     let f = c .before .before .before in
     let a = f .before .args in
-    c .broken-head .ensures ∙ head-broken (a .good) (a .at) (a .end) (a .tag) (a .skip) (a .len) (c .before .before .tag-ok .result) (f .fits2 .result) (c .before .before .tag-ok .ensures) (f .fits2 .ensures) (c .before .if1 .left)
+    c .broken-head .ensures ∙ head-broken (a .good) (a .at) (a .end) (a .tag) (a .skip) (a .len) (c .before .before .tag-ok .result)
+    (f .fits2 .result) (c .before .before .tag-ok .ensures) (f .fits2 .ensures) (c .before .if1 .left)
 
 pub head-if-spec : {M : Type 1} → statement M
 head-if-spec =

@@ -15,7 +15,8 @@ use Rattle.der.proofs.order.ascending.Statement.{statement}
 use Rattle.der.proofs.order.ascending.Tie as tie
 
 abbrev Inv-loop : tie.InvT-loop
-Inv-loop s at end i₀ from₀ i from = ascending (map (octetsOf s) (childrenOf s at end)) ≡ ascendFrom (octetsFrom s from (i - from)) (map (octetsOf s) (childrenOf s i end))
+Inv-loop s at end i₀ from₀ i from =
+    ascending (map (octetsOf s) (childrenOf s at end)) ≡ ascendFrom (octetsFrom s from (i - from)) (map (octetsOf s) (childrenOf s i end))
 
 abbrev μ-loop : tie.MeasureT-loop
 μ-loop s at end i₀ from₀ i from = end - i
@@ -34,7 +35,9 @@ returns c =
     let k = c .before .before in
     let p = k .before .before in
     let a = p .before .before .args in
-    sym (p .loop .inv ∙ ascend-bad (a .s .now) (octetsFrom (a .s .now) (p .loop .from) (p .loop .i - p .loop .from)) (p .loop .i) (a .end) (k .head-at .result) (c .before .may-follow .result) (k .before .loop-test .taken) (k .head-at .ensures) (c .before .may-follow .ensures) (not-true _ (c .if1 .taken)))
+    sym (p .loop .inv ∙ ascend-bad (a .s .now) (octetsFrom (a .s .now) (p .loop .from) (p .loop .i - p .loop .from)) (p .loop .i) (a .end)
+    (k .head-at .result) (c .before .may-follow .result) (k .before .loop-test .taken) (k .head-at .ensures)
+    (c .before .may-follow .ensures) (not-true _ (c .if1 .taken)))
 
 loop-less : tie.Need-loop-less Inv-loop μ-loop
 loop-less c =
@@ -49,13 +52,16 @@ loop-again c =
     let k = c .before .before in
     let p = k .before .before in
     let a = p .before .before .args in
-    p .loop .inv ∙ ascend-next (a .s .now) (octetsFrom (a .s .now) (p .loop .from) (p .loop .i - p .loop .from)) (p .loop .i) (a .end) (k .head-at .result) (c .before .may-follow .result) (k .before .loop-test .taken) (k .head-at .ensures) (c .before .may-follow .ensures) (not-false _ (c .if1 .left))
+    p .loop .inv ∙ ascend-next (a .s .now) (octetsFrom (a .s .now) (p .loop .from) (p .loop .i - p .loop .from)) (p .loop .i) (a .end)
+    (k .head-at .result) (c .before .may-follow .result) (k .before .loop-test .taken) (k .head-at .ensures)
+    (c .before .may-follow .ensures) (not-false _ (c .if1 .left))
 
 returns-2 : tie.Need-returns-2 Inv-loop μ-loop
 returns-2 c =
     let p = c .before in
     let a = p .before .before .args in
-    sym (p .loop .inv ∙ ascend-done (a .s .now) (octetsFrom (a .s .now) (p .loop .from) (p .loop .i - p .loop .from)) (p .loop .i) (a .end) (c .loop-test .left))
+    sym (p .loop .inv ∙ ascend-done (a .s .now) (octetsFrom (a .s .now) (p .loop .from) (p .loop .i - p .loop .from)) (p .loop .i) (a .end)
+    (c .loop-test .left))
 
 pub ascending-spec : {M : Type 1} → statement M
 ascending-spec =

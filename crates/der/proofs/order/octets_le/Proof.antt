@@ -36,14 +36,18 @@ returns-2 c =
     let q = c .before in
     let p = q .before .before .before .before in
     let x = p .before .before .args in
-    sym (p .loop .inv ∙ le-below (x .s .now) (x .a) (x .n) (x .b) (x .m) (p .loop .k) (q .before .octet-past .result) (q .octet-past2 .result) (q .before .before .before .loop-test .taken) (q .before .before .if1 .left) (q .before .octet-past .ensures) (q .octet-past2 .ensures) (c .if2 .taken))
+    sym (p .loop .inv ∙ le-below (x .s .now) (x .a) (x .n) (x .b) (x .m) (p .loop .k) (q .before .octet-past .result)
+    (q .octet-past2 .result) (q .before .before .before .loop-test .taken) (q .before .before .if1 .left) (q .before .octet-past .ensures)
+    (q .octet-past2 .ensures) (c .if2 .taken))
 
 returns-3 : tie.Need-returns-3 Inv-loop μ-loop
 returns-3 c =
     let q = c .before .before in
     let p = q .before .before .before .before in
     let x = p .before .before .args in
-    sym (p .loop .inv ∙ le-above (x .s .now) (x .a) (x .n) (x .b) (x .m) (p .loop .k) (q .before .octet-past .result) (q .octet-past2 .result) (q .before .before .before .loop-test .taken) (q .before .before .if1 .left) (q .before .octet-past .ensures) (q .octet-past2 .ensures) (c .if3 .taken))
+    sym (p .loop .inv ∙ le-above (x .s .now) (x .a) (x .n) (x .b) (x .m) (p .loop .k) (q .before .octet-past .result)
+    (q .octet-past2 .result) (q .before .before .before .loop-test .taken) (q .before .before .if1 .left) (q .before .octet-past .ensures)
+    (q .octet-past2 .ensures) (c .if3 .taken))
 
 add-k : tie.Need-add-k Inv-loop μ-loop
 add-k c = omega arith
@@ -56,7 +60,9 @@ loop-again c =
     let q = c .before .before in
     let p = q .before .before .before .before in
     let x = p .before .before .args in
-    p .loop .inv ∙ le-same (x .s .now) (x .a) (x .n) (x .b) (x .m) (p .loop .k) (q .before .octet-past .result) (q .octet-past2 .result) (q .before .before .before .loop-test .taken) (q .before .before .if1 .left) (q .before .octet-past .ensures) (q .octet-past2 .ensures) (c .before .if2 .left) (c .if3 .left)
+    p .loop .inv ∙ le-same (x .s .now) (x .a) (x .n) (x .b) (x .m) (p .loop .k) (q .before .octet-past .result) (q .octet-past2 .result)
+    (q .before .before .before .loop-test .taken) (q .before .before .if1 .left) (q .before .octet-past .ensures) (q .octet-past2 .ensures)
+    (c .before .if2 .left) (c .if3 .left)
 
 returns-4 : tie.Need-returns-4 Inv-loop μ-loop
 returns-4 c =

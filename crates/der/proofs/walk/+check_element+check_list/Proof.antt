@@ -59,10 +59,30 @@ check-list-below t =
 
 -- what each member learns of the functions that it calls
 abbrev element-calls : ℕ → check-element-lts.Claims
-element-calls t = (element-ok-reads.Asked, element-ok-reads.Learnt, is-constructed-reads.Asked, is-constructed-reads.Learnt, check-list-below t, check-list.Post)
+element-calls t = (
+  element-ok-reads.Asked,
+  element-ok-reads.Learnt,
+  is-constructed-reads.Asked,
+  is-constructed-reads.Learnt,
+  check-list-below t,
+  check-list.Post,
+)
 
 abbrev list-calls : ℕ → check-list-lts.Claims
-list-calls t = (head-at-reads.Asked, head-at-reads.Learnt, check-element-below t, check-element.Post, is-sound-reads.Asked, is-sound-reads.Learnt, and-then-reads.Asked, and-then-reads.Learnt, may-follow-reads.Asked, may-follow-reads.Learnt, in-order-reads.Asked, in-order-reads.Learnt)
+list-calls t = (
+  head-at-reads.Asked,
+  head-at-reads.Learnt,
+  check-element-below t,
+  check-element.Post,
+  is-sound-reads.Asked,
+  is-sound-reads.Learnt,
+  and-then-reads.Asked,
+  and-then-reads.Learnt,
+  may-follow-reads.Asked,
+  may-follow-reads.Learnt,
+  in-order-reads.Asked,
+  in-order-reads.Learnt,
+)
 
 check-element-returns : (t : ℕ) → check-element-lts.Need-returns (element-calls t) (check-element-at t) check-element.Post
 check-element-returns t c =
@@ -86,13 +106,16 @@ check-element-returns-2 t c =
     let i = c .before .before .before in
     let k = i .before .before in
     let a = k .before .before .before .args in
-    c .check-list .ensures ∙ sym (element-list (a .s .now) (a .depth) (a .h) (k .element-ok .result) (k .before .if1 .left) (k .element-ok .ensures) (i .is-constructed .result) (i .before .if2 .taken) (i .is-constructed .ensures) (c .before .before .if3 .taken))
+    c .check-list .ensures ∙ sym (element-list (a .s .now) (a .depth) (a .h) (k .element-ok .result) (k .before .if1 .left)
+    (k .element-ok .ensures) (i .is-constructed .result) (i .before .if2 .taken) (i .is-constructed .ensures)
+    (c .before .before .if3 .taken))
 
 check-element-returns-3 : (t : ℕ) → check-element-lts.Need-returns-3 (element-calls t) (check-element-at t) check-element.Post
 check-element-returns-3 t c =
     let k = c .before .before .before in
     let a = k .before .before .before .args in
-    sym (element-plain (a .s .now) (a .depth) (a .h) (k .element-ok .result) (k .before .if1 .left) (k .element-ok .ensures) (c .before .is-constructed .result) (c .before .before .if2 .taken) (c .before .is-constructed .ensures) (c .if3 .left))
+    sym (element-plain (a .s .now) (a .depth) (a .h) (k .element-ok .result) (k .before .if1 .left) (k .element-ok .ensures)
+    (c .before .is-constructed .result) (c .before .before .if2 .taken) (c .before .is-constructed .ensures) (c .if3 .left))
 
 check-element-returns-4 : (t : ℕ) → check-element-lts.Need-returns-4 (element-calls t) (check-element-at t) check-element.Post
 check-element-returns-4 t c =
@@ -101,7 +124,8 @@ check-element-returns-4 t c =
     sym (element-bad (a .s .now) (a .depth) (a .h) (k .element-ok .result) (k .before .if1 .left) (k .element-ok .ensures) (c .if2 .left))
 
 abbrev check-list-Inv-loop : check-list-lts.InvT-loop
-check-list-Inv-loop s at set body end depth i₀ from₀ ascends₀ found₀ i from ascends found = soundList s depth at set body end ≡ listFrom s depth at set body end ascends found (octetsFrom s from (i - from)) i
+check-list-Inv-loop s at set body end depth i₀ from₀ ascends₀ found₀ i from ascends found =
+    soundList s depth at set body end ≡ listFrom s depth at set body end ascends found (octetsFrom s from (i - from)) i
 
 abbrev check-list-μ-loop : check-list-lts.MeasureT-loop
 check-list-μ-loop s at set body end depth i₀ from₀ ascends₀ found₀ i from ascends found = end - i
@@ -109,19 +133,24 @@ check-list-μ-loop s at set body end depth i₀ from₀ ascends₀ found₀ i fr
 check-list-loop-holds : (t : ℕ) → check-list-lts.Need-loop-holds (list-calls t) (check-list-at t) check-list.Post check-list-Inv-loop check-list-μ-loop
 check-list-loop-holds t c = let a = c .before .args in list-begins (a .s .now) (a .depth) (a .at) (a .set) (a .body) (a .end)
 
-check-list-head-at-requires : (t : ℕ) → check-list-lts.Need-head-at-requires (list-calls t) (check-list-at t) check-list.Post check-list-Inv-loop check-list-μ-loop
+check-list-head-at-requires : (t : ℕ)
+    → check-list-lts.Need-head-at-requires (list-calls t) (check-list-at t) check-list.Post check-list-Inv-loop check-list-μ-loop
 check-list-head-at-requires t c κs = search needs
 
-check-list-check-element-requires : (t : ℕ) → check-list-lts.Need-check-element-requires (list-calls t) (check-list-at t) check-list.Post check-list-Inv-loop check-list-μ-loop
+check-list-check-element-requires : (t : ℕ)
+    → check-list-lts.Need-check-element-requires (list-calls t) (check-list-at t) check-list.Post check-list-Inv-loop check-list-μ-loop
 check-list-check-element-requires t c κs = (omega arith, tt)
 
-check-list-is-sound-requires : (t : ℕ) → check-list-lts.Need-is-sound-requires (list-calls t) (check-list-at t) check-list.Post check-list-Inv-loop check-list-μ-loop
+check-list-is-sound-requires : (t : ℕ)
+    → check-list-lts.Need-is-sound-requires (list-calls t) (check-list-at t) check-list.Post check-list-Inv-loop check-list-μ-loop
 check-list-is-sound-requires t c κs = search needs
 
-check-list-and-then-requires : (t : ℕ) → check-list-lts.Need-and-then-requires (list-calls t) (check-list-at t) check-list.Post check-list-Inv-loop check-list-μ-loop
+check-list-and-then-requires : (t : ℕ)
+    → check-list-lts.Need-and-then-requires (list-calls t) (check-list-at t) check-list.Post check-list-Inv-loop check-list-μ-loop
 check-list-and-then-requires t c κs = search needs
 
-check-list-may-follow-requires : (t : ℕ) → check-list-lts.Need-may-follow-requires (list-calls t) (check-list-at t) check-list.Post check-list-Inv-loop check-list-μ-loop
+check-list-may-follow-requires : (t : ℕ)
+    → check-list-lts.Need-may-follow-requires (list-calls t) (check-list-at t) check-list.Post check-list-Inv-loop check-list-μ-loop
 check-list-may-follow-requires t c κs = search needs
 
 check-list-loop-less : (t : ℕ) → check-list-lts.Need-loop-less (list-calls t) (check-list-at t) check-list.Post check-list-Inv-loop check-list-μ-loop
@@ -140,20 +169,28 @@ check-list-loop-again t c =
     let p = k .before .before in
     let a = p .before .before .args in
     let next : j .if1 .found ≡ andThen (p .loop .found) (v .check-element .result)
-    = ⊎-elim (λ w. w .2 ∙ w .1 .ensures) (λ w. then-if (p .loop .found) (v .check-element .result) (j .if1 .found) (j .before .is-sound .result) (j .before .is-sound .ensures) (not-false _ (w .0 .left)) (w .1)) (j .if1 .came) in
-    p .loop .inv ∙ list-next (a .s .now) (a .depth) (a .at) (a .set) (a .body) (a .end) (p .loop .ascends) (p .loop .found) (octetsFrom (a .s .now) (p .loop .from) (p .loop .i - p .loop .from)) (p .loop .i) (k .head-at .result) (v .check-element .result) (j .if1 .found) (c .may-follow .result) (k .before .loop-test .taken) (k .head-at .ensures) (v .check-element .ensures) next (c .may-follow .ensures)
+    = ⊎-elim (λ w. w .2 ∙ w .1 .ensures) (λ w. then-if (p .loop .found) (v .check-element .result) (j .if1 .found)
+    (j .before .is-sound .result) (j .before .is-sound .ensures) (not-false _ (w .0 .left)) (w .1)) (j .if1 .came) in
+    p .loop .inv ∙ list-next (a .s .now) (a .depth) (a .at) (a .set) (a .body) (a .end) (p .loop .ascends) (p .loop .found)
+    (octetsFrom (a .s .now) (p .loop .from) (p .loop .i - p .loop .from)) (p .loop .i) (k .head-at .result) (v .check-element .result)
+    (j .if1 .found) (c .may-follow .result) (k .before .loop-test .taken) (k .head-at .ensures) (v .check-element .ensures) next
+    (c .may-follow .ensures)
 
-check-list-in-order-requires : (t : ℕ) → check-list-lts.Need-in-order-requires (list-calls t) (check-list-at t) check-list.Post check-list-Inv-loop check-list-μ-loop
+check-list-in-order-requires : (t : ℕ)
+    → check-list-lts.Need-in-order-requires (list-calls t) (check-list-at t) check-list.Post check-list-Inv-loop check-list-μ-loop
 check-list-in-order-requires t c κs = search needs
 
-check-list-and-then-requires-2 : (t : ℕ) → check-list-lts.Need-and-then-requires-2 (list-calls t) (check-list-at t) check-list.Post check-list-Inv-loop check-list-μ-loop
+check-list-and-then-requires-2 : (t : ℕ)
+    → check-list-lts.Need-and-then-requires-2 (list-calls t) (check-list-at t) check-list.Post check-list-Inv-loop check-list-μ-loop
 check-list-and-then-requires-2 t c κs = search needs
 
 check-list-returns : (t : ℕ) → check-list-lts.Need-returns (list-calls t) (check-list-at t) check-list.Post check-list-Inv-loop check-list-μ-loop
 check-list-returns t c =
     let p = c .before .before .before in
     let a = p .before .before .args in
-    c .and-then2 .ensures ∙ (ap (λ (o : Soundness). andThen o (p .loop .found)) (c .before .in-order .ensures) ∙ sym (p .loop .inv ∙ list-done (a .s .now) (a .depth) (a .at) (a .set) (a .body) (a .end) (p .loop .ascends) (p .loop .found) (octetsFrom (a .s .now) (p .loop .from) (p .loop .i - p .loop .from)) (p .loop .i) (c .before .before .loop-test .left)))
+    c .and-then2 .ensures ∙ (ap (λ (o : Soundness). andThen o (p .loop .found)) (c .before .in-order .ensures) ∙ sym
+    (p .loop .inv ∙ list-done (a .s .now) (a .depth) (a .at) (a .set) (a .body) (a .end) (p .loop .ascends) (p .loop .found)
+    (octetsFrom (a .s .now) (p .loop .from) (p .loop .i - p .loop .from)) (p .loop .i) (c .before .before .loop-test .left)))
 
 pub +check-element+check-list-spec : {M : Type 1} → statement M
 +check-element+check-list-spec = close μ-check-element μ-check-list (λ t. check-element-lts.spec (element-calls t)

@@ -15,7 +15,8 @@ returns : tie.Need-returns
 returns c =
     let h = c .before .before .before in
     let a = h .before .before .before .args in
-    c .check-list .ensures ∙ sym (stretch-filled (a .s .now) (a .at) (a .end) (h .head-any .result) (h .head-any .ensures) (h .before .if1 .taken) (c .before .if2 .taken))
+    c .check-list .ensures ∙ sym (stretch-filled (a .s .now) (a .at) (a .end) (h .head-any .result) (h .head-any .ensures)
+    (h .before .if1 .taken) (c .before .if2 .taken))
 
 returns-2 : tie.Need-returns-2
 returns-2 c =

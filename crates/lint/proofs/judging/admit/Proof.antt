@@ -19,7 +19,13 @@ returns-2 : tie.Need-returns-2
 unfolding admissionOf
 returns-2 c =
     let first = c .before .before in
-    rw (← first .before .length-ok .ensures, not-false (first .before .length-ok .result) (first .if1 .left), ← c .before .length-ok2 .ensures, not-true (c .before .length-ok2 .result) (c .if2 .taken))
+    rw (
+      ← first .before .length-ok .ensures,
+      not-false (first .before .length-ok .result) (first .if1 .left),
+      ← c .before .length-ok2
+          .ensures,
+      not-true (c .before .length-ok2 .result) (c .if2 .taken),
+    )
 
 profile-of-requires : tie.Need-profile-of-requires
 profile-of-requires c κs = search needs
@@ -36,7 +42,15 @@ returns-3 c =
     let asked = c .before .before in
     let second = asked .before in
     let first = second .before .before in
-    rw (← first .before .length-ok .ensures, not-false (first .before .length-ok .result) (first .if1 .left), ← second .before .length-ok2 .ensures, not-false (second .before .length-ok2 .result) (second .if2 .left), ← asked .profile-of .ensures, c .enum-told .given .1)
+    rw (
+      ← first .before .length-ok .ensures,
+      not-false (first .before .length-ok .result) (first .if1 .left),
+      ← second .before .length-ok2
+          .ensures,
+      not-false (second .before .length-ok2 .result) (second .if2 .left),
+      ← asked .profile-of .ensures,
+      c .enum-told .given .1,
+    )
 
 returns-4 : tie.Need-returns-4
 unfolding admissionOf
@@ -44,7 +58,15 @@ returns-4 c =
     let asked = c .before .before .before in
     let second = asked .before in
     let first = second .before .before in
-    rw (← first .before .length-ok .ensures, not-false (first .before .length-ok .result) (first .if1 .left), ← second .before .length-ok2 .ensures, not-false (second .before .length-ok2 .result) (second .if2 .left), ← asked .profile-of .ensures, c .before .asked .given .1)
+    rw (
+      ← first .before .length-ok .ensures,
+      not-false (first .before .length-ok .result) (first .if1 .left),
+      ← second .before .length-ok2
+          .ensures,
+      not-false (second .before .length-ok2 .result) (second .if2 .left),
+      ← asked .profile-of .ensures,
+      c .before .asked .given .1,
+    )
 
 pub admit-spec : {M : Type 1} → statement M
 admit-spec =

@@ -38,7 +38,8 @@ returns-2 c =
     let known = fit .before .before .before .before .before .before .before .before .before in
     let a = known .before .args in
     let given = known .slice-known .given in
-    reported-written _ (a .room .now) (fit .before .before .before .all-rules .ensures) (fit .has-room .ensures) (test .if1 .left) (search (needs, given)) (written .all-rules2 .ensures)
+    reported-written _ (a .room .now) (fit .before .before .before .all-rules .ensures) (fit .has-room .ensures) (test .if1 .left)
+    (search (needs, given)) (written .all-rules2 .ensures)
 
 same-length-3 : tie.Need-same-length-3
 same-length-3 c = search needs
@@ -50,7 +51,8 @@ returns-3 c =
     let known = fit .before .before .before .before .before .before .before .before .before in
     let a = known .before .args in
     let given = known .slice-known .given in
-    reported-none _ (a .room .now) (fit .before .before .before .all-rules .ensures) (fit .has-room .ensures) (test .if1 .left) (search (needs, given)) (c .if2 .left)
+    reported-none _ (a .room .now) (fit .before .before .before .all-rules .ensures) (fit .has-room .ensures) (test .if1 .left)
+    (search (needs, given)) (c .if2 .left)
 
 pub report-fields-spec : {M : Type 1} → statement M
 report-fields-spec =

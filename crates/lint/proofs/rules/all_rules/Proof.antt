@@ -39,7 +39,8 @@ returns c =
     let first = second .before .before .before .before in
     let names = first .before .before in
     rw (← names .before .key-of .ensures, ← names .value-at .ensures)
-    (first .field-rules .ensures ⨾ (second .subject-rules .ensures ⨾ (third .key-rules .ensures ⨾ (fourth .extension-rules .ensures ⨾ fifth .value-rules .ensures))))
+    (first .field-rules .ensures ⨾ (second .subject-rules .ensures ⨾
+    (third .key-rules .ensures ⨾ (fourth .extension-rules .ensures ⨾ fifth .value-rules .ensures))))
 
 pub all-rules-spec : {M : Type 1} → statement M
 all-rules-spec =

@@ -26,7 +26,8 @@ returns : tie.Need-returns Inv-loop μ-loop
 returns c =
     let p = c .before .before .before in
     let a = p .before .before .args in
-    sym (p .loop .inv ∙ has-found (a .s .now) (a .x) (a .body) (a .n) (p .loop .k) (c .before .octet-past .result) (c .before .before .loop-test .taken) (c .before .octet-past .ensures) (c .if1 .taken))
+    sym (p .loop .inv ∙ has-found (a .s .now) (a .x) (a .body) (a .n) (p .loop .k) (c .before .octet-past .result)
+    (c .before .before .loop-test .taken) (c .before .octet-past .ensures) (c .if1 .taken))
 
 add-k : tie.Need-add-k Inv-loop μ-loop
 add-k c = omega arith
@@ -38,7 +39,8 @@ loop-again : tie.Need-loop-again Inv-loop μ-loop
 loop-again c =
     let p = c .before .before .before in
     let a = p .before .before .args in
-    p .loop .inv ∙ has-next (a .s .now) (a .x) (a .body) (a .n) (p .loop .k) (c .before .octet-past .result) (c .before .before .loop-test .taken) (c .before .octet-past .ensures) (c .if1 .left)
+    p .loop .inv ∙ has-next (a .s .now) (a .x) (a .body) (a .n) (p .loop .k) (c .before .octet-past .result)
+    (c .before .before .loop-test .taken) (c .before .octet-past .ensures) (c .if1 .left)
 
 returns-2 : tie.Need-returns-2 Inv-loop μ-loop
 returns-2 c =

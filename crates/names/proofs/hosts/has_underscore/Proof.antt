@@ -24,7 +24,9 @@ returns c =
     let m = c .before in
     let d = m .before .before in
     let a = d .before .before .args in
-    behind (isDnsName (a .h)) (hasOctet 95 (contentsOf (a .s .now) (a .h))) (c .has-octet .result) (sym (d .is-dns-name .ensures) ∙ m .before .if1 .taken) (c .has-octet .ensures ∙ ap (λ (n : ℕ). hasOctet 95 (octetsFrom (a .s .now) (a .h .body) n)) (m .minus .ensures))
+    behind (isDnsName (a .h)) (hasOctet 95 (contentsOf (a .s .now) (a .h))) (c .has-octet .result)
+    (sym (d .is-dns-name .ensures) ∙ m .before .if1 .taken) (c .has-octet .ensures ∙ ap
+    (λ (n : ℕ). hasOctet 95 (octetsFrom (a .s .now) (a .h .body) n)) (m .minus .ensures))
 
 returns-2 : tie.Need-returns-2
 returns-2 c =

@@ -14,13 +14,15 @@ returns : tie.Need-returns
 returns c =
     let k = c .before in
     let a = k .before .before .before .args in
-    ap (λ (b : Bool). cond b Plain Neither) (sym (c .if2 .taken)) ∙ host-short (a .s .now) (a .body) (a .n) (k .labels-ok .result) (k .before .if1 .taken) (k .labels-ok .ensures)
+    ap (λ (b : Bool). cond b Plain Neither) (sym (c .if2 .taken)) ∙ host-short (a .s .now) (a .body) (a .n) (k .labels-ok .result)
+    (k .before .if1 .taken) (k .labels-ok .ensures)
 
 returns-2 : tie.Need-returns-2
 returns-2 c =
     let k = c .before in
     let a = k .before .before .before .args in
-    ap (λ (b : Bool). cond b Plain Neither) (sym (c .if2 .left)) ∙ host-short (a .s .now) (a .body) (a .n) (k .labels-ok .result) (k .before .if1 .taken) (k .labels-ok .ensures)
+    ap (λ (b : Bool). cond b Plain Neither) (sym (c .if2 .left)) ∙ host-short (a .s .now) (a .body) (a .n) (k .labels-ok .result)
+    (k .before .if1 .taken) (k .labels-ok .ensures)
 
 returns-3 : tie.Need-returns-3
 returns-3 c =

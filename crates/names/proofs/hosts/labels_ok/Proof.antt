@@ -18,7 +18,8 @@ use Rattle.names.proofs.hosts.labels_ok.Tie as tie
 
 abbrev Inv-loop : tie.InvT-loop
 Inv-loop s body n size₀ last₀ dotted₀ k₀ size last dotted k =
-    (size ≤ k) × ((leb 2 (length (labelsOf (octetsFrom s body n))) && labelsOk (labelsOf (octetsFrom s body n))) ≡ scanned size last dotted (octetsFrom s (body + k) (n - k)))
+    (size ≤ k) × ((leb 2 (length (labelsOf (octetsFrom s body n))) && labelsOk (labelsOf (octetsFrom s body n))) ≡ scanned size last dotted
+    (octetsFrom s (body + k) (n - k)))
 
 abbrev μ-loop : tie.MeasureT-loop
 μ-loop s body n size₀ last₀ dotted₀ k₀ size last dotted k = n - k
@@ -39,7 +40,9 @@ returns c =
     let o = c .before .before in
     let p = o .before .before in
     let a = p .before .before .args in
-    sym (p .loop .inv .1 ∙ scan-bad (a .s .now) (p .loop .size) (p .loop .last) (p .loop .dotted) (a .body) (a .n) (p .loop .k) (o .octet-past .result) (c .before .may-follow .result) (o .before .loop-test .taken) (o .octet-past .ensures) (c .before .may-follow .ensures) (not-true _ (c .if1 .taken)))
+    sym (p .loop .inv .1 ∙ scan-bad (a .s .now) (p .loop .size) (p .loop .last) (p .loop .dotted) (a .body) (a .n) (p .loop .k)
+    (o .octet-past .result) (c .before .may-follow .result) (o .before .loop-test .taken) (o .octet-past .ensures)
+    (c .before .may-follow .ensures) (not-true _ (c .if1 .taken)))
 
 size-after-requires : tie.Need-size-after-requires Inv-loop μ-loop
 size-after-requires c κs = omega (arith, c .before .before .before .before .loop .inv .0)
@@ -56,8 +59,14 @@ loop-again c =
     let o = m .before in
     let p = o .before .before in
     let a = p .before .before .args in
-    let b = o .octet-past .result in
-    (size-grows (p .loop .size) b (p .loop .k) (c .size-after .result) (c .size-after .ensures) (p .loop .inv .0), p .loop .inv .1 ∙ (scan-next (a .s .now) (p .loop .size) (p .loop .last) (p .loop .dotted) (a .body) (a .n) (p .loop .k) b (m .may-follow .result) (o .before .loop-test .taken) (o .octet-past .ensures) (m .may-follow .ensures) (not-false _ (c .before .if1 .left)) ∙ ap (λ (z : ℕ). scanned z b (p .loop .dotted || eqb b 46) (octetsFrom (a .s .now) (a .body + (p .loop .k + 1)) (a .n - (p .loop .k + 1)))) (sym (c .size-after .ensures))))
+    let b = o .octet-past .result in (
+      size-grows (p .loop .size) b (p .loop .k) (c .size-after .result) (c .size-after .ensures) (p .loop .inv .0),
+      p .loop .inv .1 ∙
+          (scan-next (a .s .now) (p .loop .size) (p .loop .last) (p .loop .dotted) (a .body) (a .n) (p .loop .k) b (m .may-follow .result)
+          (o .before .loop-test .taken) (o .octet-past .ensures) (m .may-follow .ensures) (not-false _ (c .before .if1 .left)) ∙ ap
+          (λ (z : ℕ). scanned z b (p .loop .dotted || eqb b 46) (octetsFrom (a .s .now) (a .body + (p .loop .k + 1)) (a .n - (p .loop .k + 1))))
+          (sym (c .size-after .ensures))),
+    )
 
 may-end-requires : tie.Need-may-end-requires Inv-loop μ-loop
 may-end-requires c κs = search needs
@@ -66,7 +75,9 @@ returns-2 : tie.Need-returns-2 Inv-loop μ-loop
 returns-2 c =
     let p = c .before .before in
     let a = p .before .before .args in
-    ap (λ (b : Bool). p .loop .dotted && b) (c .may-end .ensures) ∙ sym (p .loop .inv .1 ∙ scan-done (a .s .now) (p .loop .size) (p .loop .last) (p .loop .dotted) (a .body) (a .n) (p .loop .k) (c .before .loop-test .left))
+    ap (λ (b : Bool). p .loop .dotted && b) (c .may-end .ensures) ∙ sym
+    (p .loop .inv .1 ∙ scan-done (a .s .now) (p .loop .size) (p .loop .last) (p .loop .dotted) (a .body) (a .n) (p .loop .k)
+    (c .before .loop-test .left))
 
 pub labels-ok-spec : {M : Type 1} → statement M
 labels-ok-spec =

@@ -31,7 +31,8 @@ returns c =
     let d = m .before .before in
     let a = d .before .before .args in
     let host = g .host-name .ensures ∙ ap (λ (n : ℕ). hostOf (octetsFrom (a .s .now) (a .h .body) n)) (m .minus .ensures) in
-    behind (isDnsName (a .h)) (not (isPlain (hostOf (contentsOf (a .s .now) (a .h))))) (not (c .is-plain .result)) (sym (d .is-dns-name .ensures) ∙ m .before .if1 .taken) (ap not (c .is-plain .ensures ∙ ap (λ (x : Host). isPlain x) host))
+    behind (isDnsName (a .h)) (not (isPlain (hostOf (contentsOf (a .s .now) (a .h))))) (not (c .is-plain .result))
+    (sym (d .is-dns-name .ensures) ∙ m .before .if1 .taken) (ap not (c .is-plain .ensures ∙ ap (λ (x : Host). isPlain x) host))
 
 returns-2 : tie.Need-returns-2
 returns-2 c =

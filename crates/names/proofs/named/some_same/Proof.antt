@@ -19,13 +19,16 @@ use Rattle.names.proofs.named.some_same.Tie as tie
 
 abbrev Inv-loop : tie.InvT-loop
 Inv-loop s a n at end found₀ i body k₀ found k =
-    (found ≡ false) × (k ≤ n) × (someNamed s (octetsFrom s a n) (childrenOf s at end) ≡ (sameBy lowerCase (octetsFrom s (a + k) (n - k)) (octetsFrom s (body + k) (n - k)) || someNamed s (octetsFrom s a n) (childrenOf s i end)))
+    (found ≡ false) × (k ≤ n) × (someNamed s (octetsFrom s a n) (childrenOf s at end) ≡
+    (sameBy lowerCase (octetsFrom s (a + k) (n - k)) (octetsFrom s (body + k) (n - k)) || someNamed s (octetsFrom s a n)
+    (childrenOf s i end)))
 
 abbrev μ-loop : tie.MeasureT-loop
 μ-loop s a n at end found₀ i body k₀ found k = n - k
 
 abbrev Inv-names : tie.InvT-names
-Inv-names s a n at end found₀ i₀ found i = (found ≡ false) × (someNamed s (octetsFrom s a n) (childrenOf s at end) ≡ someNamed s (octetsFrom s a n) (childrenOf s i end))
+Inv-names s a n at end found₀ i₀ found i =
+    (found ≡ false) × (someNamed s (octetsFrom s a n) (childrenOf s at end) ≡ someNamed s (octetsFrom s a n) (childrenOf s i end))
 
 abbrev μ-names : tie.MeasureT-names
 μ-names s a n at end found₀ i₀ found i = end - i
@@ -51,15 +54,23 @@ names-again : tie.Need-names-again Inv-loop μ-loop Inv-names μ-names
 names-again c =
     let k = c .before .before .before in
     let p = k .before .before in
-    let a = p .before .before .args in
-    (p .names .inv .0, p .names .inv .1 ∙ named-skip (a .s .now) (a .a) (a .n) (p .names .i) (a .end) (c .before .minus .result) (k .head-at .result) (k .before .names-test .taken) (k .head-at .ensures) (c .before .minus .ensures) (not-true _ (c .if1 .taken)))
+    let a = p .before .before .args in (
+      p .names .inv .0,
+      p .names .inv .1 ∙ named-skip (a .s .now) (a .a) (a .n) (p .names .i) (a .end) (c .before .minus .result)
+          (k .head-at .result) (k .before .names-test .taken) (k .head-at .ensures) (c .before .minus .ensures) (not-true _ (c .if1 .taken)),
+    )
 
 loop-holds : tie.Need-loop-holds Inv-loop μ-loop Inv-names μ-names
 loop-holds c =
     let k = c .before .before .before in
     let p = k .before .before in
-    let a = p .before .before .args in
-    (p .names .inv .0, omega arith, simp (add-zero, sub-zero) (p .names .inv .1 ∙ named-enter (a .s .now) (a .a) (a .n) (p .names .i) (a .end) (c .before .minus .result) (k .head-at .result) (k .before .names-test .taken) (k .head-at .ensures) (c .before .minus .ensures) (not-false _ (c .if1 .left))))
+    let a = p .before .before .args in (
+      p .names .inv .0,
+      omega arith,
+      simp (add-zero, sub-zero) (p .names .inv .1 ∙ named-enter (a .s .now) (a .a) (a .n) (p .names .i)
+          (a .end) (c .before .minus .result) (k .head-at .result) (k .before .names-test .taken) (k .head-at .ensures)
+          (c .before .minus .ensures) (not-false _ (c .if1 .left))),
+    )
 
 octet-past-requires : tie.Need-octet-past-requires Inv-loop μ-loop Inv-names μ-names
 octet-past-requires c κs = search needs
@@ -88,8 +99,14 @@ names-again-2 c =
     let k = q .before .before .before .before in
     let p = k .before .before in
     let a = p .before .before .args in
-    let more : Bool → Bool = λ b. b || someNamed (a .s .now) (octetsFrom (a .s .now) (a .a) (a .n)) (childrenOf (a .s .now) (k .head-at .result .end) (a .end)) in
-    (q .loop .inv .0, q .loop .inv .2 ∙ ap more (same-apart lowerCase (a .s .now) (a .s .now) (a .a) (k .head-at .result .body) (a .n) (q .loop .k) (c .before .before .before .lower-case .result) (c .before .lower-case2 .result) (omega arith) (c .before .before .before .lower-case .ensures ∙ ap lowerCase (c .before .before .before .before .octet-past .ensures)) (c .before .lower-case2 .ensures ∙ ap lowerCase (c .before .before .octet-past2 .ensures)) (c .if3 .taken)))
+    let more : Bool → Bool = λ b. b || someNamed (a .s .now) (octetsFrom (a .s .now) (a .a) (a .n))
+    (childrenOf (a .s .now) (k .head-at .result .end) (a .end)) in (
+      q .loop .inv .0,
+      q .loop .inv .2 ∙ ap more (same-apart lowerCase (a .s .now) (a .s .now) (a .a) (k .head-at .result .body) (a .n)
+          (q .loop .k) (c .before .before .before .lower-case .result) (c .before .lower-case2 .result) (omega arith)
+          (c .before .before .before .lower-case .ensures ∙ ap lowerCase (c .before .before .before .before .octet-past .ensures))
+          (c .before .lower-case2 .ensures ∙ ap lowerCase (c .before .before .octet-past2 .ensures)) (c .if3 .taken)),
+    )
 
 add-k : tie.Need-add-k Inv-loop μ-loop Inv-names μ-names
 add-k c = omega arith
@@ -103,21 +120,30 @@ loop-again c =
     let k = q .before .before .before .before in
     let p = k .before .before in
     let a = p .before .before .args in
-    let more : Bool → Bool = λ b. b || someNamed (a .s .now) (octetsFrom (a .s .now) (a .a) (a .n)) (childrenOf (a .s .now) (k .head-at .result .end) (a .end)) in
-    (q .loop .inv .0, omega arith, q .loop .inv .2 ∙ ap more (same-next lowerCase (a .s .now) (a .s .now) (a .a) (k .head-at .result .body) (a .n) (q .loop .k) (c .before .before .before .lower-case .result) (c .before .lower-case2 .result) (omega arith) (c .before .before .before .lower-case .ensures ∙ ap lowerCase (c .before .before .before .before .octet-past .ensures)) (c .before .lower-case2 .ensures ∙ ap lowerCase (c .before .before .octet-past2 .ensures)) (c .if3 .left)))
+    let more : Bool → Bool = λ b. b || someNamed (a .s .now) (octetsFrom (a .s .now) (a .a) (a .n))
+    (childrenOf (a .s .now) (k .head-at .result .end) (a .end)) in (
+      q .loop .inv .0,
+      omega arith,
+      q .loop .inv .2 ∙ ap more (same-next lowerCase (a .s .now) (a .s .now) (a .a) (k .head-at .result .body)
+          (a .n) (q .loop .k) (c .before .before .before .lower-case .result) (c .before .lower-case2 .result) (omega arith)
+          (c .before .before .before .lower-case .ensures ∙ ap lowerCase (c .before .before .before .before .octet-past .ensures))
+          (c .before .lower-case2 .ensures ∙ ap lowerCase (c .before .before .octet-past2 .ensures)) (c .if3 .left)),
+    )
 
 returns : tie.Need-returns Inv-loop μ-loop Inv-names μ-names
 returns c =
     let p = c .before in
     let a = p .before .before .args in
-    p .names .inv .0 ∙ sym (p .names .inv .1 ∙ any-done (isNamed (a .s .now) (octetsFrom (a .s .now) (a .a) (a .n))) (a .s .now) (p .names .i) (a .end) (c .names-test .left))
+    p .names .inv .0 ∙ sym (p .names .inv .1 ∙ any-done (isNamed (a .s .now) (octetsFrom (a .s .now) (a .a) (a .n))) (a .s .now)
+    (p .names .i) (a .end) (c .names-test .left))
 
 returns-2 : tie.Need-returns-2 Inv-loop μ-loop Inv-names μ-names
 returns-2 c =
     let q = c .before in
     let k = q .before .before .before .before in
     let a = k .before .before .before .before .args in
-    let more : Bool → Bool = λ b. b || someNamed (a .s .now) (octetsFrom (a .s .now) (a .a) (a .n)) (childrenOf (a .s .now) (k .head-at .result .end) (a .end)) in
+    let more : Bool → Bool = λ b. b || someNamed (a .s .now) (octetsFrom (a .s .now) (a .a) (a .n))
+    (childrenOf (a .s .now) (k .head-at .result .end) (a .end)) in
     sym (q .loop .inv .2 ∙ ap more (same-done lowerCase (a .s .now) (a .s .now) (a .a) (k .head-at .result .body) (a .n) (q .loop .k) (omega arith)))
 
 pub some-same-spec : {M : Type 1} → statement M

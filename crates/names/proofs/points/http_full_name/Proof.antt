@@ -18,7 +18,8 @@ returns : tie.Need-returns
 returns c =
     let k = c .before .before .before .before in
     let a = k .before .before .before .args in
-    c .some .ensures ∙ point-full (a .s .now) (a .h) (k .before .first-in .result) (k .first-in2 .result) (k .before .first-in .ensures) (k .first-in2 .ensures) (c .before .if1 .taken)
+    c .some .ensures ∙ point-full (a .s .now) (a .h) (k .before .first-in .result) (k .first-in2 .result) (k .before .first-in .ensures)
+    (k .first-in2 .ensures) (c .before .if1 .taken)
 
 returns-2 : tie.Need-returns-2
 returns-2 c =

@@ -30,7 +30,8 @@ returns c =
     let k = c .before .before in
     let p = k .before .before in
     let a = p .before .before .args in
-    sym (p .loop .inv ∙ any-found (httpFullName (a .s .now)) (a .s .now) (p .loop .i) (a .end) (k .head-at .result) (k .before .loop-test .taken) (k .head-at .ensures) (sym (c .before .http-full-name .ensures) ∙ c .if1 .taken))
+    sym (p .loop .inv ∙ any-found (httpFullName (a .s .now)) (a .s .now) (p .loop .i) (a .end) (k .head-at .result)
+    (k .before .loop-test .taken) (k .head-at .ensures) (sym (c .before .http-full-name .ensures) ∙ c .if1 .taken))
 
 loop-less : tie.Need-loop-less Inv-loop μ-loop
 loop-less c =
@@ -45,7 +46,8 @@ loop-again c =
     let k = c .before .before in
     let p = k .before .before in
     let a = p .before .before .args in
-    p .loop .inv ∙ any-missed (httpFullName (a .s .now)) (a .s .now) (p .loop .i) (a .end) (k .head-at .result) (k .before .loop-test .taken) (k .head-at .ensures) (sym (c .before .http-full-name .ensures) ∙ c .if1 .left)
+    p .loop .inv ∙ any-missed (httpFullName (a .s .now)) (a .s .now) (p .loop .i) (a .end) (k .head-at .result)
+    (k .before .loop-test .taken) (k .head-at .ensures) (sym (c .before .http-full-name .ensures) ∙ c .if1 .left)
 
 returns-2 : tie.Need-returns-2 Inv-loop μ-loop
 returns-2 c =

@@ -20,7 +20,8 @@ returns : tie.Need-returns
 returns c =
     let m = c .before .before .before in
     let a = m .before .before .args in
-    http-read (a .s .now) (a .h) (c .before .before .is-uri .result) (m .minus .result) (c .same-ignoring-case .result) (c .before .before .is-uri .ensures) (m .minus .ensures) (c .same-ignoring-case .ensures)
+    http-read (a .s .now) (a .h) (c .before .before .is-uri .result) (m .minus .result) (c .same-ignoring-case .result)
+    (c .before .before .is-uri .ensures) (m .minus .ensures) (c .same-ignoring-case .ensures)
 
 pub is-http-spec : {M : Type 1} → statement M
 is-http-spec =

@@ -34,8 +34,11 @@ loop-less c = omega arith
 loop-again : tie.Need-loop-again Inv-loop μ-loop
 loop-again c =
     let p = c .before .before .before in
-    let a = p .before .before .args in
-    (p .loop .inv .0 ∙ small-step (a .s .now) (p .loop .n) (p .loop .i) (a .end) (c .before .octet .result) (c .push .result) (c .before .before .loop-test .taken) (c .before .octet .ensures) (c .push .ensures .0), c .push .ensures .1)
+    let a = p .before .before .args in (
+      p .loop .inv .0 ∙ small-step (a .s .now) (p .loop .n) (p .loop .i) (a .end) (c .before .octet .result) (c .push .result)
+          (c .before .before .loop-test .taken) (c .before .octet .ensures) (c .push .ensures .0),
+      c .push .ensures .1,
+    )
 
 returns : tie.Need-returns Inv-loop μ-loop
 returns c =

@@ -24,7 +24,8 @@ returns-2 : tie.Need-returns-2
 returns-2 c =
     let p = c .before .before .before .before in
     let a = p .before .before .args in
-    max-even (a .s .now) (a .body) (a .end) (p .lead .result) (λ i. p .before .shared-slice-known .given i .fits) (p .lead .ensures) 32 (c .all-ones .result) (omega arith) (c .all-ones .ensures)
+    max-even (a .s .now) (a .body) (a .end) (p .lead .result) (λ i. p .before .shared-slice-known .given i .fits) (p .lead .ensures) 32
+    (c .all-ones .result) (omega arith) (c .all-ones .ensures)
 
 returns-3 : tie.Need-returns-3
 returns-3 c =

@@ -24,7 +24,8 @@ returns : tie.Need-returns Inv-loop μ-loop
 returns c =
     let p = c .before .before .before in
     let a = p .before .before .args in
-    sym (p .loop .inv ∙ lead-stop (a .s .now) (p .loop .i) (a .end) (c .before .octet .result) (c .before .before .loop-test .taken) (c .before .octet .ensures) (c .if1 .taken))
+    sym (p .loop .inv ∙ lead-stop (a .s .now) (p .loop .i) (a .end) (c .before .octet .result) (c .before .before .loop-test .taken)
+    (c .before .octet .ensures) (c .if1 .taken))
 
 add-i : tie.Need-add-i Inv-loop μ-loop
 add-i c = search needs
@@ -36,7 +37,8 @@ loop-again : tie.Need-loop-again Inv-loop μ-loop
 loop-again c =
     let p = c .before .before .before in
     let a = p .before .before .args in
-    p .loop .inv ∙ lead-step (a .s .now) (p .loop .i) (a .end) (c .before .octet .result) (c .before .before .loop-test .taken) (c .before .octet .ensures) (c .if1 .left)
+    p .loop .inv ∙ lead-step (a .s .now) (p .loop .i) (a .end) (c .before .octet .result) (c .before .before .loop-test .taken)
+    (c .before .octet .ensures) (c .if1 .left)
 
 returns-2 : tie.Need-returns-2 Inv-loop μ-loop
 returns-2 c =

@@ -13,7 +13,8 @@ octet-requires c κs = search needs
 returns : tie.Need-returns
 returns c =
     let a = c .before .before .before .args in
-    rw (c .octet .ensures) (positive-is (a .s .now) (a .body) (a .end) (c .before .lead .result) (λ i. c .before .before .shared-slice-known .given i .fits) (c .before .lead .ensures))
+    rw (c .octet .ensures) (positive-is (a .s .now) (a .body) (a .end) (c .before .lead .result)
+    (λ i. c .before .before .shared-slice-known .given i .fits) (c .before .lead .ensures))
 
 pub positive-spec : {M : Type 1} → statement M
 positive-spec = tie.close (tie.spec lead-requires octet-requires returns)

@@ -36,7 +36,9 @@ returns-2 : tie.Need-returns-2
 returns-2 c =
     let p = c .before .before .before .before .before in
     let a = p .before .before .args in
-    rw (c .power .ensures) (below-even (a .s .now) (a .body) (a .end) (p .lead .result) (a .k) (λ i. p .before .shared-slice-known .given i .fits) (p .lead .ensures) (c .before .octet .result) (omega arith) (c .before .octet .ensures))
+    rw (c .power .ensures) (below-even (a .s .now) (a .body) (a .end) (p .lead .result) (a .k)
+    (λ i. p .before .shared-slice-known .given i .fits) (p .lead .ensures) (c .before .octet .result) (omega arith)
+    (c .before .octet .ensures))
 
 returns-3 : tie.Need-returns-3
 returns-3 c =

@@ -14,7 +14,8 @@ same-requires c κs = search needs
 returns : tie.Need-returns
 returns c =
     let a = c .before .before .before .before .args in
-    c .same .ensures ∙ ap (sameBy exactly (octetsFrom (a .s .now) (a .at) (a .n))) (ap (octetsFrom (a .text .now) 0) (c .before .if1 .taken) ∙ octets-whole (a .text .now))
+    c .same .ensures ∙ ap (sameBy exactly (octetsFrom (a .s .now) (a .at) (a .n)))
+    (ap (octetsFrom (a .text .now) 0) (c .before .if1 .taken) ∙ octets-whole (a .text .now))
 
 returns-2 : tie.Need-returns-2
 returns-2 c =

@@ -11,7 +11,9 @@ use Rattle.octets.proofs.comparing.same_by.Statement.{statement}
 use Rattle.octets.proofs.comparing.same_by.Tie as tie
 
 abbrev Inv-loop : tie.InvT-loop
-Inv-loop letters s a t b n k₀ k = sameBy (foldOf letters) (octetsFrom s a n) (octetsFrom t b n) ≡ sameBy (foldOf letters) (octetsFrom s (a + k) (n - k)) (octetsFrom t (b + k) (n - k))
+Inv-loop letters s a t b n k₀ k =
+    sameBy (foldOf letters) (octetsFrom s a n) (octetsFrom t b n) ≡ sameBy (foldOf letters) (octetsFrom s (a + k) (n - k))
+    (octetsFrom t (b + k) (n - k))
 
 abbrev μ-loop : tie.MeasureT-loop
 μ-loop letters s a t b n k₀ k = n - k
@@ -37,7 +39,10 @@ returns c =
     let x = p .before .before .before .args in
     let left = c .before .before .before in
     let right = c .before in
-    sym (p .loop .inv ∙ same-apart (foldOf (x .letters)) (x .s .now) (x .t .now) (x .a) (x .b) (x .n) (p .loop .k) (left .fold .result) (right .fold2 .result) (left .before .before .loop-test .taken) (left .fold .ensures ∙ ap (foldOf (x .letters)) (left .before .octet-past .ensures)) (right .fold2 .ensures ∙ ap (foldOf (x .letters)) (right .before .octet-past2 .ensures)) (c .if1 .taken))
+    sym (p .loop .inv ∙ same-apart (foldOf (x .letters)) (x .s .now) (x .t .now) (x .a) (x .b) (x .n) (p .loop .k) (left .fold .result)
+    (right .fold2 .result) (left .before .before .loop-test .taken)
+    (left .fold .ensures ∙ ap (foldOf (x .letters)) (left .before .octet-past .ensures))
+    (right .fold2 .ensures ∙ ap (foldOf (x .letters)) (right .before .octet-past2 .ensures)) (c .if1 .taken))
 
 add-k : tie.Need-add-k Inv-loop μ-loop
 add-k c = omega arith
@@ -51,7 +56,10 @@ loop-again c =
     let x = p .before .before .before .args in
     let left = c .before .before .before in
     let right = c .before in
-    p .loop .inv ∙ same-next (foldOf (x .letters)) (x .s .now) (x .t .now) (x .a) (x .b) (x .n) (p .loop .k) (left .fold .result) (right .fold2 .result) (left .before .before .loop-test .taken) (left .fold .ensures ∙ ap (foldOf (x .letters)) (left .before .octet-past .ensures)) (right .fold2 .ensures ∙ ap (foldOf (x .letters)) (right .before .octet-past2 .ensures)) (c .if1 .left)
+    p .loop .inv ∙ same-next (foldOf (x .letters)) (x .s .now) (x .t .now) (x .a) (x .b) (x .n) (p .loop .k) (left .fold .result)
+    (right .fold2 .result) (left .before .before .loop-test .taken)
+    (left .fold .ensures ∙ ap (foldOf (x .letters)) (left .before .octet-past .ensures))
+    (right .fold2 .ensures ∙ ap (foldOf (x .letters)) (right .before .octet-past2 .ensures)) (c .if1 .left)
 
 returns-2 : tie.Need-returns-2 Inv-loop μ-loop
 returns-2 c =

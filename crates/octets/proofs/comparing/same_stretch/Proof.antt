@@ -19,7 +19,8 @@ returns c =
 returns-2 : tie.Need-returns-2
 returns-2 c =
     let a = c .before .before .before .args in
-    sym (same-length exactly (octetsFrom (a .s .now) (a .a) (a .n)) (octetsFrom (a .t .now) (a .b) (a .m)) (λ e. c .if1 .left (sym (octets-long (a .s .now) (a .a) (a .n)) ∙ (e ∙ octets-long (a .t .now) (a .b) (a .m)))))
+    sym (same-length exactly (octetsFrom (a .s .now) (a .a) (a .n)) (octetsFrom (a .t .now) (a .b) (a .m))
+    (λ e. c .if1 .left (sym (octets-long (a .s .now) (a .a) (a .n)) ∙ (e ∙ octets-long (a .t .now) (a .b) (a .m)))))
 
 pub same-stretch-spec : {M : Type 1} → statement M
 same-stretch-spec = tie.close (tie.spec same-requires returns returns-2)

@@ -15,7 +15,8 @@ copy-inside-requires : tie.Need-copy-inside-requires
 copy-inside-requires c κs =
     let tests = c .before .before in
     let a = tests .before .before .before .before .args in
-    copied-inside (a .s .now) (a .from) (a .n) (a .out .now) (a .at) (tests .before .within .result) (tests .within2 .result) (tests .before .within .ensures) (tests .within2 .ensures) (c .before .if1 .taken)
+    copied-inside (a .s .now) (a .from) (a .n) (a .out .now) (a .at) (tests .before .within .result) (tests .within2 .result)
+    (tests .before .within .ensures) (tests .within2 .ensures) (c .before .if1 .taken)
 
 same-length : tie.Need-same-length
 same-length c = search needs
@@ -25,14 +26,16 @@ returns c =
     let call = c .before .before in
     let tests = call .before .before .before in
     let a = tests .before .before .before .before .args in
-    let inside = copied-inside (a .s .now) (a .from) (a .n) (a .out .now) (a .at) (tests .before .within .result) (tests .within2 .result) (tests .before .within .ensures) (tests .within2 .ensures) (call .before .before .if1 .taken) in
+    let inside = copied-inside (a .s .now) (a .from) (a .n) (a .out .now) (a .at) (tests .before .within .result) (tests .within2 .result)
+    (tests .before .within .ensures) (tests .within2 .ensures) (call .before .before .if1 .taken) in
     call .copy-inside .ensures ∙ sym (copied-paste (a .s .now) (a .from) (a .n) (a .out .now) (a .at) (inside .0) (inside .1))
 
 returns-2 : tie.Need-returns-2
 returns-2 c =
     let tests = c .before in
     let a = tests .before .before .before .before .args in
-    sym (copied-else (a .s .now) (a .from) (a .n) (a .out .now) (a .at) (tests .before .within .result) (tests .within2 .result) (tests .before .within .ensures) (tests .within2 .ensures) (c .if1 .left))
+    sym (copied-else (a .s .now) (a .from) (a .n) (a .out .now) (a .at) (tests .before .within .result) (tests .within2 .result)
+    (tests .before .within .ensures) (tests .within2 .ensures) (c .if1 .left))
 
 pub copy-spec : {M : Type 1} → statement M
 copy-spec =

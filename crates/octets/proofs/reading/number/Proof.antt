@@ -12,7 +12,9 @@ use Rattle.octets.proofs.reading.number.Statement.{statement}
 use Rattle.octets.proofs.reading.number.Tie as tie
 
 abbrev Inv-loop : tie.InvT-loop
-Inv-loop s at skip n from count value₀ k₀ value k = (value ≤ largest) × (min (numberOf (octetsFrom s (at + skip) n)) largest ≡ min (numberFrom value (octetsFrom s (at + skip + k) (n - k))) largest)
+Inv-loop s at skip n from count value₀ k₀ value k =
+    (value ≤ largest) × (min (numberOf (octetsFrom s (at + skip) n)) largest ≡ min
+    (numberFrom value (octetsFrom s (at + skip + k) (n - k))) largest)
 
 abbrev μ-loop : tie.MeasureT-loop
 μ-loop s at skip n from count value₀ k₀ value k = n - k
@@ -48,8 +50,11 @@ loop-again c =
     let x = w .before .before .before .args in
     let e = c .written-on .ensures in
     let h : p .loop .k < x .n = omega (arith, w .wide2 .ensures .0) in
-    let i : x .at + (w .before .wide .result + p .loop .k) ≡ x .at + x .skip + p .loop .k = omega (arith, w .before .wide .ensures .0) in
-    (omega arith, p .loop .inv .1 ∙ number-next (x .s .now) (x .at + x .skip) (x .n) (p .loop .k) (p .loop .value) (c .written-on .result) (c .before .octet-past .result) h (c .before .octet-past .ensures ∙ ap (octetAt (x .s .now)) i) e)
+    let i : x .at + (w .before .wide .result + p .loop .k) ≡ x .at + x .skip + p .loop .k = omega (arith, w .before .wide .ensures .0) in (
+      omega arith,
+      p .loop .inv .1 ∙ number-next (x .s .now) (x .at + x .skip) (x .n) (p .loop .k) (p .loop .value) (c .written-on .result)
+          (c .before .octet-past .result) h (c .before .octet-past .ensures ∙ ap (octetAt (x .s .now)) i) e,
+    )
 
 returns : tie.Need-returns Inv-loop μ-loop
 returns c =

@@ -13,7 +13,8 @@ use Rattle.primes.proofs.dividing.none_divides.Statement.{statement}
 use Rattle.primes.proofs.dividing.none_divides.Tie as tie
 
 abbrev Inv-loop : tie.InvT-loop
-Inv-loop s body end primes products k₀ last₀ r₀ k last r = (freeOf primes (number s body end) ≡ freeOf (drop k primes) (number s body end)) × (r ≡ number s body end % last)
+Inv-loop s body end primes products k₀ last₀ r₀ k last r =
+    (freeOf primes (number s body end) ≡ freeOf (drop k primes) (number s body end)) × (r ≡ number s body end % last)
 
 abbrev μ-loop : tie.MeasureT-loop
 μ-loop s body end primes products k₀ last₀ r₀ k last r = length primes - k
@@ -67,7 +68,8 @@ returns c =
     let l = t .before in
     let g = l .before .before .before .before in
     let a = g .args in
-    sym (l .loop .inv .0 ∙ free-bad (a .primes .now) (a .products .now) (g .pre) (l .loop .k) (number (a .s .now) (a .body) (a .end)) (r .renew .result) (t .loop-test .taken) (r .renew .ensures) (c .if1 .taken))
+    sym (l .loop .inv .0 ∙ free-bad (a .primes .now) (a .products .now) (g .pre) (l .loop .k) (number (a .s .now) (a .body) (a .end))
+    (r .renew .result) (t .loop-test .taken) (r .renew .ensures) (c .if1 .taken))
 
 add-k : tie.Need-add-k Inv-loop μ-loop
 add-k c = search needs
@@ -81,8 +83,11 @@ loop-again c =
     let t = r .before .before in
     let l = t .before in
     let g = l .before .before .before .before in
-    let a = g .args in
-    (l .loop .inv .0 ∙ free-good (a .primes .now) (a .products .now) (g .pre) (l .loop .k) (number (a .s .now) (a .body) (a .end)) (r .renew .result) (t .loop-test .taken) (r .renew .ensures) (c .if1 .left), r .renew .ensures)
+    let a = g .args in (
+      l .loop .inv .0 ∙ free-good (a .primes .now) (a .products .now) (g .pre) (l .loop .k) (number (a .s .now) (a .body) (a .end))
+          (r .renew .result) (t .loop-test .taken) (r .renew .ensures) (c .if1 .left),
+      r .renew .ensures,
+    )
 
 returns-2 : tie.Need-returns-2 Inv-loop μ-loop
 returns-2 c =

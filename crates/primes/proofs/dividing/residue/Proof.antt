@@ -40,7 +40,9 @@ small-requires c κs = search needs
 loop-holds : tie.Need-loop-holds Inv-loop μ-loop
 loop-holds c =
     let a = c .before .before .before .args in
-    start (a .s .now) (a .body) (a .end) (a .body + c .before .minus .result % 4) (c .small .result) (a .m) (λ i. c .before .before .shared-slice-known .given i .fits) (ap (λ (x : ℕ). a .body + x % 4) (c .before .minus .ensures)) (c .small .ensures)
+    start (a .s .now) (a .body) (a .end) (a .body + c .before .minus .result % 4) (c .small .result) (a .m)
+    (λ i. c .before .before .shared-slice-known .given i .fits) (ap (λ (x : ℕ). a .body + x % 4) (c .before .minus .ensures))
+    (c .small .ensures)
 
 word-requires : tie.Need-word-requires Inv-loop μ-loop
 word-requires c κs = search needs
@@ -61,7 +63,8 @@ loop-again : tie.Need-loop-again Inv-loop μ-loop
 loop-again c =
     let l = c .before .before .before in
     let a = l .before .before .before .before .args in
-    let t = more (a .s .now) (l .loop .i) (a .end) (l .loop .r) (a .m) (c .before .word .result) (c .step .result) (c .before .before .loop-test .taken) (l .loop .inv .1) (c .before .word .ensures .0) (c .step .ensures) in
+    let t = more (a .s .now) (l .loop .i) (a .end) (l .loop .r) (a .m) (c .before .word .result) (c .step .result)
+    (c .before .before .loop-test .taken) (l .loop .inv .1) (c .before .word .ensures .0) (c .step .ensures) in
     (l .loop .inv .0 ∙ t .0, t .1)
 
 rem-result : tie.Need-rem-result Inv-loop μ-loop

@@ -32,7 +32,8 @@ returns c =
     let p = q .before .before in
     let a = p .before .before .args in
     let contents = octetsFrom (a .s .now) (a .body) (a .n) in
-    let e = digits-bad contents (a .digits) (p .loop .k) _ _ (q .before .loop-test .taken) (q .content .ensures) (c .before .is-digit .ensures) (not-true _ (c .if1 .taken)) in
+    let e = digits-bad contents (a .digits) (p .loop .k) _ _ (q .before .loop-test .taken) (q .content .ensures)
+    (c .before .is-digit .ensures) (not-true _ (c .if1 .taken)) in
     sym (p .loop .inv ∙ e)
 
 add-k : tie.Need-add-k Inv-loop μ-loop
@@ -47,7 +48,8 @@ loop-again c =
     let p = q .before .before in
     let a = p .before .before .args in
     let contents = octetsFrom (a .s .now) (a .body) (a .n) in
-    let e = digits-good contents (a .digits) (p .loop .k) _ _ (q .before .loop-test .taken) (q .content .ensures) (c .before .is-digit .ensures) (not-false _ (c .if1 .left)) in
+    let e = digits-good contents (a .digits) (p .loop .k) _ _ (q .before .loop-test .taken) (q .content .ensures)
+    (c .before .is-digit .ensures) (not-false _ (c .if1 .left)) in
     p .loop .inv ∙ e
 
 returns-2 : tie.Need-returns-2 Inv-loop μ-loop

@@ -16,7 +16,8 @@ returns c =
     let k = c .before .before in
     let m = k .before in
     let a = m .before .before .before .before .args in
-    authority-some (a .s .now) (a .i .now) (a .v) (a .key) (m .first-in .result) (k .same-contents .result) (m .before .if1 .taken) (m .first-in .ensures) (k .same-contents .ensures)
+    authority-some (a .s .now) (a .i .now) (a .v) (a .key) (m .first-in .result) (k .same-contents .result) (m .before .if1 .taken)
+    (m .first-in .ensures) (k .same-contents .ensures)
 
 returns-2 : tie.Need-returns-2
 returns-2 c =

@@ -29,7 +29,8 @@ returns c =
     let o = c .before .before in
     let p = o .before .before in
     let a = p .before .before .args in
-    sym (p .loop .inv ∙ bits-here (a .s .now) (a .body) (a .n) (p .loop .k) (o .octet-past .result) (c .before .any-bit .result) (o .before .loop-test .taken) (o .octet-past .ensures) (c .before .any-bit .ensures) (c .if1 .taken))
+    sym (p .loop .inv ∙ bits-here (a .s .now) (a .body) (a .n) (p .loop .k) (o .octet-past .result) (c .before .any-bit .result)
+    (o .before .loop-test .taken) (o .octet-past .ensures) (c .before .any-bit .ensures) (c .if1 .taken))
 
 add-k : tie.Need-add-k Inv-loop μ-loop
 add-k c = omega arith
@@ -42,7 +43,8 @@ loop-again c =
     let o = c .before .before in
     let p = o .before .before in
     let a = p .before .before .args in
-    p .loop .inv ∙ bits-later (a .s .now) (a .body) (a .n) (p .loop .k) (o .octet-past .result) (c .before .any-bit .result) (o .before .loop-test .taken) (o .octet-past .ensures) (c .before .any-bit .ensures) (c .if1 .left)
+    p .loop .inv ∙ bits-later (a .s .now) (a .body) (a .n) (p .loop .k) (o .octet-past .result) (c .before .any-bit .result)
+    (o .before .loop-test .taken) (o .octet-past .ensures) (c .before .any-bit .ensures) (c .if1 .left)
 
 returns-2 : tie.Need-returns-2 Inv-loop μ-loop
 returns-2 c =

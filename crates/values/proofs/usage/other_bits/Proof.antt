@@ -18,7 +18,8 @@ returns-2 c =
     let f = c .before in
     let o = f .before in
     let a = o .before .before .before .args in
-    other-first (a .s .now) (a .body) (a .n) (o .octet-past .result) (a .allowed) (f .other-in-first .result) (o .before .if1 .left) (o .octet-past .ensures) (f .other-in-first .ensures) (c .if2 .taken)
+    other-first (a .s .now) (a .body) (a .n) (o .octet-past .result) (a .allowed) (f .other-in-first .result) (o .before .if1 .left)
+    (o .octet-past .ensures) (f .other-in-first .ensures) (c .if2 .taken)
 
 any-later-requires : tie.Need-any-later-requires
 any-later-requires c κs = search needs
@@ -28,7 +29,8 @@ returns-3 c =
     let f = c .before .before in
     let o = f .before in
     let a = o .before .before .before .args in
-    other-later (a .s .now) (a .body) (a .n) (o .octet-past .result) (a .allowed) (f .other-in-first .result) (o .before .if1 .left) (o .octet-past .ensures) (f .other-in-first .ensures) (c .any-later .result) (c .before .if2 .left) (c .any-later .ensures)
+    other-later (a .s .now) (a .body) (a .n) (o .octet-past .result) (a .allowed) (f .other-in-first .result) (o .before .if1 .left)
+    (o .octet-past .ensures) (f .other-in-first .ensures) (c .any-later .result) (c .before .if2 .left) (c .any-later .ensures)
 
 pub other-bits-spec : {M : Type 1} → statement M
 other-bits-spec =

@@ -19,7 +19,8 @@ returns c =
     let o = c .before in
     let m = o .before in
     let a = m .before .before .args in
-    rw (← (m .minus .ensures)) (ap (λ (t : Bool). a .v .sound && t) (signed-law (a .s .now) (a .v .body) (m .minus .result) (o .octet-past .result) (o .octet-past .ensures)))
+    rw (← (m .minus .ensures)) (ap (λ (t : Bool). a .v .sound && t)
+    (signed-law (a .s .now) (a .v .body) (m .minus .result) (o .octet-past .result) (o .octet-past .ensures)))
 
 pub unsigned-spec : {M : Type 1} → statement M
 unsigned-spec = tie.close (tie.spec minus-requires octet-past-requires returns)
