@@ -1,0 +1,11 @@
+-- Laws of the definitions, by file.
+pub mod Soundness
+pub mod Forms
+pub mod Members
+pub mod Fields
+pub mod Key
+pub mod Subject
+pub mod Extensions
+pub mod Good
+pub mod Values
+pub mod Theorem
