@@ -4,6 +4,7 @@ pub mod Header
 pub mod Contents
 pub mod Order
 pub mod Children
+pub mod Members
 pub mod Any
 pub mod Walks
 pub mod Walking

@@ -1,5 +1,4 @@
 -- The fields are read where RFC 5280's grammar has them.
---     children-first      the first of elements, and those after it
 --     fit-tag             what fits a type of one alternative has its identifier
 --     named               the fields of a certificate that fits
 --     times-rise          the second of its two times starts after the first
@@ -12,10 +11,15 @@ use native.Mathlib.Omega.{arith}
 use lib.ListN.{length}
 use lib.Dec.{ltb, eqb}
 use borrow.Author.Tests.{ltb-true, ltb-false, eq-eqb, ne-eqb, eqb-true}
+use Rattle.certificate.specs.Fields.{wholeOf, tbsOf, outerOf, versionIn, serialIn, innerIn, issuerIn, periodIn, subjectIn, keyIn, extendedAfter, listAfter, extensionsIn, notBeforeIn, notAfterIn, timeIs, timeIn, validityOf, certificateOf}
+use Rattle.certificate.specs.Named.{VersionNamed, ExtensionsNamed, Named}
+use Rattle.certificate.specs.Named.VersionNamed.{unwritten, written}
+use Rattle.certificate.specs.Named.ExtensionsNamed.{without, listed}
 use Rattle.der.specs.Header.{headOf, childrenOf, brokenHead}
 use Rattle.der.specs.declared.header.Head.{Head}
 use Rattle.der.proofs.Laws.Header.{head-narrow, head-start, head-forward}
-use Rattle.der.proofs.Laws.Children.{children-done, children-next}
+use Rattle.der.proofs.Laws.Children.{children-next}
+use Rattle.der.proofs.Laws.Members.{children-first}
 use Rattle.der.specs.Contents.{contentsOf}
 use Rattle.times.specs.Reads.{timeOf}
 use Rattle.times.specs.declared.reading.Reading.{Reading}
@@ -29,10 +33,6 @@ use Rattle.asn.specs.Fields.Optional.{absent, present}
 use Rattle.asn.specs.declared.fitting.Verdict.the-variants.{Stranger, Fits, Wrong}
 use Rattle.asn.proofs.Laws.Fields.{parts-fit, one-fits, done-fits, certificate-fields, tbs-fields}
 use Rattle.der.specs.Members.{firstIn, after, past, insideTag}
-use Rattle.certificate.specs.Fields.{wholeOf, tbsOf, outerOf, versionIn, serialIn, innerIn, issuerIn, periodIn, subjectIn, keyIn, extendedAfter, listAfter, extensionsIn, notBeforeIn, notAfterIn, timeIs, timeIn, validityOf, certificateOf}
-use Rattle.certificate.specs.Named.{VersionNamed, ExtensionsNamed, Named}
-use Rattle.certificate.specs.Named.VersionNamed.{unwritten, written}
-use Rattle.certificate.specs.Named.ExtensionsNamed.{without, listed}
 
 -- ---- identifiers
 
@@ -50,23 +50,6 @@ pub record Stands (s : List ℕ) (end : ℕ) (h : Head) (hs : List Head) : Type 
   pub place : ℕ
   pub is : h ≡ headOf s place end
   pub members : childrenOf s place end ≡ hs
-
-pub record First (s : List ℕ) (at end : ℕ) (h : Head) (hs : List Head) : Type 0 where
-  pub some : at < end
-  pub is : headOf s at end ≡ h
-  pub rest : childrenOf s (headOf s at end .end) end ≡ hs
-
-pub children-first : (s : List ℕ) (at end : ℕ) (h : Head) (hs : List Head) → childrenOf s at end ≡ h ∷ hs → First s at end h hs
-children-first s at end h hs e = go (ltb at end) refl
-  where
-    go : (t : Bool) → ltb at end ≡ t → First s at end h hs
-    go true l =
-        let k : headOf s at end ∷ childrenOf s (headOf s at end .end) end ≡ h ∷ hs = sym (children-next s at end (ltb-true at end l)) ∙ e in
-        record { some = ltb-true at end l; is = cc k; rest = cc k }
-    go false l =
-        let k : _≡_ {A = List Head} [] (h ∷ hs) = sym (children-done s at end (ltb-false at end l)) ∙ e in
-        let z : _≡_ {A = ℕ} 0 1 = cc k in
-        absurd (omega arith)
 
 module _ (s : List ℕ) (end : ℕ) where
   pub stands-here : (h x : Head) (xs : List Head) → Stands s end h (x ∷ xs) → h ≡ x

@@ -12,11 +12,11 @@ use native.Mathlib.Omega.{arith}
 use lib.ListN.{length, getD}
 use lib.Dec.{ltb, leb, eqb}
 use borrow.Author.Tests.{ltb-true, ltb-false, le-leb, eq-eqb, ne-eqb}
-use Rattle.der.specs.Members.{firstIn, after, secondIn, past}
 use Rattle.certificate.specs.Extensions.{slotOf, extensionOf, sameIdentifier, seenBefore}
 use Rattle.certificate.specs.Slots.{startIn, valueFrom, goodStart, valuesOf, holderAt, valueAt}
 use Rattle.certificate.specs.Named.{AllNamed, ValueNamed}
 use Rattle.certificate.specs.Named.AllNamed.{more}
+use Rattle.der.specs.Members.{firstIn, after, secondIn, past}
 use Rattle.octets.specs.Octets.{octetAt}
 use Rattle.octets.proofs.Laws.Tests.{and-l, and-r}
 use Rattle.der.specs.Header.{tagOk, lengthOf, lengthOk, headerSize, wholeHead, brokenHead, headOf, childrenOf}
@@ -34,7 +34,8 @@ use Rattle.asn.specs.declared.fitting.Verdict.{Verdict}
 use Rattle.asn.specs.declared.fitting.Verdict.the-variants.{Stranger, Fits, Wrong}
 use Rattle.asn.proofs.Laws.Fields.{one-fits, done-fits}
 use Rattle.certificate.proofs.Laws.Inside.{between-head}
-use Rattle.certificate.proofs.Laws.Named.{children-first, stands-here}
+use Rattle.certificate.proofs.Laws.Named.{stands-here}
+use Rattle.der.proofs.Laws.Members.{children-first}
 use Rattle.certificate.proofs.Laws.Slots.{value-start}
 use Rattle.der.specs.Elements.{anyOf}
 

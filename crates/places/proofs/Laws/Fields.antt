@@ -26,7 +26,8 @@ use Rattle.profiles.specs.declared.fields.Profile.{Profile}
 use Rattle.certificate.specs.Fields.{certificateOf}
 use Rattle.certificate.specs.Named.{VersionNamed}
 use Rattle.certificate.specs.Named.VersionNamed.{unwritten, written}
-use Rattle.certificate.proofs.Laws.Named.{named, children-first}
+use Rattle.certificate.proofs.Laws.Named.{named}
+use Rattle.der.proofs.Laws.Members.{children-first}
 use Rattle.report.specs.Order.{In}
 use Rattle.rules_fields.specs.Version.{versionPlace, versionAndSerial}
 use Rattle.rules_fields.specs.Algorithms.{algorithmsAndName}

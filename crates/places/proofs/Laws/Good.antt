@@ -30,7 +30,7 @@ use Rattle.certificate.specs.Fields.{certificateOf}
 use Rattle.certificate.specs.Slots.{valueAt}
 use Rattle.certificate.specs.declared.slots.Value.{Value}
 use Rattle.certificate.proofs.Laws.Inside.{certificate-inside}
-use Rattle.certificate.proofs.Laws.Named.{children-first}
+use Rattle.der.proofs.Laws.Members.{children-first}
 use Rattle.certificate.proofs.Laws.Slots.{value-start, good-none}
 use Rattle.certificate.proofs.Laws.Values.{value-named}
 use Rattle.lint.specs.Findings.{startsIn, valuesIn}

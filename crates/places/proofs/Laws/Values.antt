@@ -11,7 +11,7 @@ use native.Mathlib.Omega.{arith}
 use Rattle.places.specs.Elements.{Element}
 use Rattle.places.specs.Statement.{AtElements}
 use Rattle.octets.proofs.Laws.Tests.{and-l, and-r}
-use Rattle.der.specs.Header.{childrenOf, brokenHead}
+use Rattle.der.specs.Header.{childrenOf}
 use Rattle.der.specs.declared.header.Head.{Head}
 use Rattle.der.proofs.Laws.Children.{children-done}
 use Rattle.asn.specs.Grammar.{Form, fits}
@@ -27,7 +27,8 @@ use Rattle.profiles.specs.declared.fields.Profile.the-variants.{Domain, Organiz
 use Rattle.certificate.specs.Slots.{valueAt}
 use Rattle.certificate.specs.declared.key.KeyKind.{KeyKind}
 use Rattle.certificate.specs.declared.slots.Value.{Value}
-use Rattle.values.specs.Items.{itemsOf, secondOf}
+use Rattle.der.specs.Members.{membersIn}
+use Rattle.der.proofs.Laws.Members.{second-is, second-none}
 use Rattle.values.specs.Identifiers.{KeyIdentifier, otherAuthority}
 use Rattle.values.specs.Usage.{unsignedOf, otherUsage}
 use Rattle.values.specs.Purposes.{noWantedPurpose}
@@ -70,14 +71,14 @@ module _ (s : List ℕ) (slot : ℕ) (v : Value) (k : SlotValue s slot v) where
   -- ---- the items of a SEQUENCE OF
 
   module _ (f : Form) (type : valueOf slot ≡ sequenceOf f) where
-    item : (h : Head) → In h (itemsOf s (v .element)) → Element s h
+    item : (h : Head) → In h (membersIn s (v .element)) → Element s h
     item h i = go k
       where
         go : SlotValue s slot v → Element s h
         go (lacking n) = absurd (List·Memᴰ·not-nil (among (sym (n .nothing)) i))
         go (good g) = members-of 0x30 _ s (v .element) refl refl (subst (λ (t : Form). fits t s (v .element) ≡ Fits) type (g .fit)) (g .element) h i
 
-    item-fits : (h : Head) → In h (itemsOf s (v .element)) → fits f s h ≡ Fits
+    item-fits : (h : Head) → In h (membersIn s (v .element)) → fits f s h ≡ Fits
     item-fits h i = go k
       where
         go : SlotValue s slot v → fits f s h ≡ Fits
@@ -92,15 +93,15 @@ second-members s policy e k =
     let a = one-fits _ _ s (policy .at) _ (parts-fit 0x30 _ s policy e .1) in
     let b = opt-fits _ _ s (policy .at) _ (a .more) in
     let d = done-fits s (policy .at) _ (b .more) in
-    let all : itemsOf s policy ≡ a .first ∷ b .front = a .is ∙ ap (λ (l : List Head). a .first ∷ l) (b .is ∙ (ap (λ (l : List Head). b .front ++ l) d ∙ append-nil (b .front))) in
+    let all : membersIn s policy ≡ a .first ∷ b .front = a .is ∙ ap (λ (l : List Head). a .first ∷ l) (b .is ∙ (ap (λ (l : List Head). b .front ++ l) d ∙ append-nil (b .front))) in
     go (a .first) (b .front) (b .fit) all
   where
-    go : (x : Head) (front : List Head) → Optional (sequenceOf policyQualifierInfo) s front → itemsOf s policy ≡ x ∷ front → (h : Head) → In h (childrenOf s (qualifiersOf s policy .body) (qualifiersOf s policy .end)) → Element s h
+    go : (x : Head) (front : List Head) → Optional (sequenceOf policyQualifierInfo) s front → membersIn s policy ≡ x ∷ front → (h : Head) → In h (childrenOf s (qualifiersOf s policy .body) (qualifiersOf s policy .end)) → Element s h
     go x [] absent is h i =
-        let none : qualifiersOf s policy ≡ brokenHead (policy .end) (policy .end) = ap (secondOf (policy .end)) is in
+        let none = second-none s policy x is in
         absurd (List·Memᴰ·not-nil (among (sym ((λ j. childrenOf s (none j .body) (none j .end)) ∙ children-done s (policy .end) (policy .end) (le-refl (policy .end)))) i))
     go x (g ∷ []) (present f) is h i =
-        let here : qualifiersOf s policy ≡ g = ap (secondOf (policy .end)) is in
+        let here : qualifiersOf s policy ≡ g = second-is s policy x g [] is in
         let element = members-of 0x30 _ s policy refl refl e k g (among is (List·Memᴰ·tail (List·Memᴰ·head refl))) in
         members-of 0x30 _ s g refl refl f element h (among (λ j. childrenOf s (sym here j .body) (sym here j .end)) i)
 
@@ -110,23 +111,23 @@ module _ (s : List ℕ) (e : certificateVerdict s ≡ Fits) where
   abbrev value : ℕ → Value
   value slot = valueAt s (valuesIn s) slot
 
-  purpose : (h : Head) → In h (itemsOf s (value 5 .element)) → Element s h
+  purpose : (h : Head) → In h (membersIn s (value 5 .element)) → Element s h
   unfolding valueOf judged extKeyUsage
   purpose = item s 5 (value 5) (slot-value s e 5 (omega arith)) oid refl
 
-  name : (h : Head) → In h (itemsOf s (value 7 .element)) → Element s h
+  name : (h : Head) → In h (membersIn s (value 7 .element)) → Element s h
   unfolding valueOf judged generalNames
   name = item s 7 (value 7) (slot-value s e 7 (omega arith)) generalName refl
 
-  access : (h : Head) → In h (itemsOf s (value 8 .element)) → Element s h
+  access : (h : Head) → In h (membersIn s (value 8 .element)) → Element s h
   unfolding valueOf judged authorityInfoAccess
   access = item s 8 (value 8) (slot-value s e 8 (omega arith)) accessDescription refl
 
-  point : (h : Head) → In h (itemsOf s (value 9 .element)) → Element s h
+  point : (h : Head) → In h (membersIn s (value 9 .element)) → Element s h
   unfolding valueOf judged cRLDistributionPoints
   point = item s 9 (value 9) (slot-value s e 9 (omega arith)) distributionPoint refl
 
-  in-policy : (x : Head) → In x (itemsOf s (value 6 .element)) → (h : Head) → In h (childrenOf s (qualifiersOf s x .body) (qualifiersOf s x .end)) → Element s h
+  in-policy : (x : Head) → In x (membersIn s (value 6 .element)) → (h : Head) → In h (childrenOf s (qualifiersOf s x .body) (qualifiersOf s x .end)) → Element s h
   unfolding valueOf judged certificatePolicies
   in-policy x i =
       let k = slot-value s e 6 (omega arith) in
@@ -135,8 +136,8 @@ module _ (s : List ℕ) (e : certificateVerdict s ≡ Fits) where
   qualifier : (h : Head) → In h (qualifiersIn s (value 6 .element .body) (value 6 .element .end)) → Element s h
   unfolding qualifiersIn
   qualifier =
-      in-each s (map (qualifiersOf s) (itemsOf s (value 6 .element)))
-      (in-mapped (λ (x : Head). (h : Head) → In h (childrenOf s (x .body) (x .end)) → Element s h) (qualifiersOf s) (itemsOf s (value 6 .element)) in-policy)
+      in-each s (map (qualifiersOf s) (membersIn s (value 6 .element)))
+      (in-mapped (λ (x : Head). (h : Head) → In h (childrenOf s (x .body) (x .end)) → Element s h) (qualifiersOf s) (membersIn s (value 6 .element)) in-policy)
 
   -- a rule on the value of a slot, and one that is judged for some profiles
   at-value : (slot : ℕ) → slot < 11 → (rule : ℕ) (broken : Bool) → AtElements s (noted rule (value slot .element .sound && broken) (value slot .holder))
