@@ -6,6 +6,8 @@ pub mod Fields
 pub mod Key
 pub mod Subject
 pub mod Extensions
-pub mod Good
+pub mod SlotValues
+pub mod Policies
 pub mod Values
+pub mod Accepted
 pub mod Theorem

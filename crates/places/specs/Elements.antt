@@ -1,4 +1,5 @@
--- The elements of a certificate, in the words of document 01's "Sound DER", of rules 340+s and of rule 204.
+-- The elements of a certificate: those of document 01's "Sound DER", what fills an extension's value (340+s), and what fills the bits of an
+-- RSA key (204).
 use mathlib.Core.Path.{_≡_}
 use mathlib.Core.Bool.{true}
 use mathlib.Core.List.{List}
@@ -17,24 +18,26 @@ use Rattle.certificate.specs.declared.key.Key.{Key}
 use Rattle.report.specs.Order.{In}
 use Rattle.rules_key.specs.Algorithm.{isRsa}
 
--- the members of the extension list
+-- one element fills the octets from place at to end, and is sound with all that it holds, depths counted from 1
+abbrev pub Fills : List ℕ → ℕ → ℕ → Type 0
+Fills s at end = stretchSoundness s at end ≡ Sound
+
+-- the Extensions in the certificate's list
 abbrev pub extensionsOf : List ℕ → List Head
 extensionsOf s = childrenOf s (certificateOf s .extensions .body) (certificateOf s .extensions .end)
-
--- the OCTET STRING of an extension
-abbrev pub octetStringOf : List ℕ → Head → Head
-octetStringOf s extension = extensionOf s extension .value
 
 abbrev pub subjectKey : List ℕ → Key
 subjectKey s = keyOf s (certificateOf s .key)
 
--- the BIT STRING of the key
-abbrev pub bitStringOf : List ℕ → Head
-bitStringOf s = subjectKey s .bits
+-- the bits of a BIT STRING start behind the octet that counts the unused ones (X.690, 8.6.2)
+abbrev pub bitsStart : Head → ℕ
+bitsStart b = b .body + 1
 
--- what the bits of the key start with, behind the octet that counts the unused ones
-abbrev pub firstInBits : List ℕ → Head
-firstInBits s = headOf s (bitStringOf s .body + 1) (bitStringOf s .end)
+-- b is the BIT STRING of an RSA key, "with 0 unused"
+pub record RsaBits (s : List ℕ) (b : Head) : Type 0 where
+  pub rsa : isRsa (subjectKey s .kind) ≡ true
+  pub is : b ≡ subjectKey s .bits
+  pub unused : octetAt s (b .body) ≡ 0
 
 -- an element of the octets s
 pub data Element (s : List ℕ) : Head → Type 0 where
@@ -42,7 +45,13 @@ pub data Element (s : List ℕ) : Head → Type 0 where
   outermost : Element s (headOf s 0 (length s))
   -- "In a constructed one, an element holds a list of elements, each again such an element"
   held : {holder h : Head} → Element s holder → In h (heldBy s holder) → Element s h
-  -- "value is .. exactly one sound element": it fills the OCTET STRING of an extension
-  in-value : {extension : Head} → In extension (extensionsOf s) → stretchSoundness s (octetStringOf s extension .body) (octetStringOf s extension .end) ≡ Sound → Element s (headOf s (octetStringOf s extension .body) (octetStringOf s extension .end))
-  -- "RSA bits are, with 0 unused, exactly a sound SEQUENCE": it fills the BIT STRING
-  in-bits : isRsa (subjectKey s .kind) ≡ true → octetAt s (bitStringOf s .body) ≡ 0 → stretchSoundness s (bitStringOf s .body + 1) (bitStringOf s .end) ≡ Sound → firstInBits s .tag ≡ 0x30 → Element s (firstInBits s)
+  -- an extension's value v "is .. exactly one sound element"
+  in-value : {x v : Head} → In x (extensionsOf s) → v ≡ extensionOf s x .value → Fills s (v .body) (v .end)
+      → Element s (headOf s (v .body) (v .end))
+  -- the bits b are "exactly a sound SEQUENCE"
+  in-bits : {b : Head} → RsaBits s b → Fills s (bitsStart b) (b .end) → headOf s (bitsStart b) (b .end) .tag ≡ 0x30
+      → Element s (headOf s (bitsStart b) (b .end))
+
+-- every element of a list
+abbrev pub AllElements : List ℕ → List Head → Type 0
+AllElements s hs = (h : Head) → In h hs → Element s h

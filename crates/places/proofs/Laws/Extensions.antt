@@ -1,12 +1,11 @@
 -- The extension list of a certificate that fits, and the places of rules 301 to 363.
---     list-element         the list is an element, if there is one
---     in-list              its members are elements, and their OCTET STRINGs
---     start-among          where a slot has a start, an extension of the list stands there
+--     value-element        the OCTET STRING of an extension is an element
+--     slot-extension       where a slot has a start, an extension of the list stands there
 --     extensions-at        rules 301 to 363
 -- Assumes nothing.
 use mathlib.Core.Path.{_≡_, refl, sym, ap, subst, _∙_}
 use mathlib.Core.List.{List, [], _∷_, List·Memᴰ·not-nil, List·Memᴰ·cases-cons, Memᴰ·append-right}
-use mathlib.Core.List.List·Memᴰ.{List·Memᴰ·head, List·Memᴰ·tail}
+use mathlib.Core.List.List·Memᴰ.{List·Memᴰ·tail as behind}
 use mathlib.Core.Logic.{⊎-elim}
 use mathlib.Core.Bool.{Bool, true, false, cond, not, _&&_, false≢true}
 use Prim.Native.Nat.{ℕ, _<_}
@@ -14,10 +13,11 @@ use native.Mathlib.Nat.{le-refl}
 use lib.Dec.{eqb}
 use lib.ListN.{getD}
 use borrow.Author.Tests.{eqb-false, not-true}
-use Rattle.places.specs.Elements.{extensionsOf, octetStringOf, Element}
+use Rattle.places.specs.Elements.{extensionsOf, Element, AllElements}
 use Rattle.places.specs.Statement.{AtElements}
 use Rattle.octets.proofs.Laws.Tests.{and-l}
-use Rattle.der.specs.Header.{headOf, childrenOf}
+use Rattle.der.specs.Header.{headOf}
+use Rattle.der.specs.Contents.{constructed}
 use Rattle.der.specs.Walking.{Chain}
 use Rattle.der.specs.Walking.Chain.{done, next}
 use Rattle.der.specs.declared.header.Head.{Head}
@@ -42,6 +42,7 @@ use Rattle.certificate.proofs.Laws.Inside.{certificate-inside}
 use Rattle.certificate.proofs.Laws.Named.{named}
 use Rattle.certificate.proofs.Laws.Parts.{certificate-extensions-named}
 use Rattle.certificate.proofs.Laws.Slots.{start-at}
+use Rattle.der.specs.Members.{membersIn}
 use Rattle.report.specs.Order.{In}
 use Rattle.report.specs.declared.sink.Entry.{Entry}
 use Rattle.rules_extensions.specs.Slots.{listPlace, isPresent, differs, extensionFrom, rule300, rule320, rule340, overSlots}
@@ -50,7 +51,7 @@ use Rattle.rules_extensions.specs.Rules.{extensionFindings}
 use Rattle.rules_extensions.proofs.Laws.Slots.{slots-in}
 use Rattle.lint.specs.Findings.{startsIn, valuesIn}
 use Rattle.places.proofs.Laws.Forms.{join-at, noted-at, each-at}
-use Rattle.places.proofs.Laws.Members.{among, members-by, members-of}
+use Rattle.places.proofs.Laws.Members.{here, among, same-element, members-by, members-of}
 use Rattle.places.proofs.Laws.Fields.{field-elements, in-extended}
 
 -- ---- one of several
@@ -60,29 +61,43 @@ named-in none i = absurd (List·Memᴰ·not-nil i)
 named-in {s} {h} (more {h = x} {hs = xs} k ks) i =
     ⊎-elim (λ (q : h ≡ x). subst (λ (y : Head). ExtensionNamed s y) (sym q) k) (λ (j : In h xs). named-in ks j) (List·Memᴰ·cases-cons i)
 
--- an element that stands at a place, among the elements of a stretch that ends at end
+-- among the elements of a stretch that ends at end there is one at a place
 pub record StandsAt (s : List ℕ) (place end : ℕ) (hs : List Head) : Type 0 where
   pub element : Head
   pub is : headOf s place end ≡ element
-  pub among-them : In element hs
+  pub listed : In element hs
 
-pub start-among : (s : List ℕ) (slot : ℕ) {end at : ℕ} {hs : List Head} → Chain s end at hs → (startIn s hs slot ≡ 0 → ⊥) → StandsAt s (startIn s hs slot) end hs
-unfolding startIn
-start-among s slot done n = absurd (n refl)
-start-among s slot {end} (next {at = at} {hs = hs} l c) n = go (λ m. start-among s slot c m) (eqb (slotOf s (headOf s at end)) slot) (eqb (headOf s at end .at) 0) n
-  where
-    later : StandsAt s (startIn s hs slot) end hs → StandsAt s (startIn s hs slot) end (headOf s at end ∷ hs)
-    later k = record { element = k .element; is = k .is; among-them = List·Memᴰ·tail (k .among-them) }
+module _ (s : List ℕ) (slot : ℕ) where
+  start-among : {end at : ℕ} {hs : List Head} → Chain s end at hs → (startIn s hs slot ≡ 0 → ⊥) → StandsAt s (startIn s hs slot) end hs
+  unfolding startIn
+  start-among done n = absurd (n refl)
+  start-among {end} (next {at = at} {hs = hs} l c) n = go (λ m. start-among c m) (eqb (slotOf s h) slot) (eqb (h .at) 0) n
+    where
+      h : Head
+      h = headOf s at end
 
-    go : ((startIn s hs slot ≡ 0 → ⊥) → StandsAt s (startIn s hs slot) end hs) → (t u : Bool) → (cond t (cond u (startIn s hs slot) (headOf s at end .at)) (startIn s hs slot) ≡ 0 → ⊥) → StandsAt s (cond t (cond u (startIn s hs slot) (headOf s at end .at)) (startIn s hs slot)) end (headOf s at end ∷ hs)
-    go ih true true n = later (ih n)
-    go ih true false n = record { element = headOf s at end; is = ap (λ (i : ℕ). headOf s i end) (head-start s at end); among-them = List·Memᴰ·head refl }
-    go ih false u n = later (ih n)
+      rest : ℕ
+      rest = startIn s hs slot
+
+      later : StandsAt s rest end hs → StandsAt s rest end (h ∷ hs)
+      later k = record { element = k .element; is = k .is; listed = behind (k .listed) }
+
+      -- t is whether h is in the slot, u whether it starts at 0
+      start : Bool → Bool → ℕ
+      start t u = cond t (cond u rest (h .at)) rest
+
+      go : ((rest ≡ 0 → ⊥) → StandsAt s rest end hs) → (t u : Bool) → (start t u ≡ 0 → ⊥) → StandsAt s (start t u) end (h ∷ hs)
+      go ih true true n = later (ih n)
+      go ih true false n = record { element = h; is = ap (λ (i : ℕ). headOf s i end) (head-start s at end); listed = here }
+      go ih false u n = later (ih n)
+
+abbrev octetString : List ℕ → Head → Head
+octetString s h = extensionOf s h .value
 
 slots-at : {s : List ℕ} (f : ℕ → List Entry) → ((slot : ℕ) → slot < 11 → AtElements s (f slot)) → AtElements s (overSlots f)
 slots-at f k = record { each = λ e m. let p = slots-in f e .0 m in k (p .0) (p .2) .each e (p .3) }
 
--- ---- of a certificate that fits
+-- ---- the list of a certificate that fits
 
 module _ (s : List ℕ) (e : certificateVerdict s ≡ Fits) where
   abbrev list : Head
@@ -94,45 +109,57 @@ module _ (s : List ℕ) (e : certificateVerdict s ≡ Fits) where
   -- there is no list, and nothing in it, or it is the one member of the [3]
   data Listed : Type 0 where
     no-list : list .sound ≡ false → extensionsOf s ≡ [] → Listed
-    one-list : Element s list → ((h : Head) → In h (extensionsOf s) → Element s h) → Listed
+    one-list : Element s list → AllElements s (extensionsOf s) → Listed
 
-  in-fitting : fits extensions s list ≡ Fits → Element s list → (h : Head) → In h (extensionsOf s) → Element s h
+  in-fitting : fits extensions s list ≡ Fits → Element s list → AllElements s (extensionsOf s)
   unfolding extensions
   in-fitting f k = members-of 0x30 _ s list refl refl f k
 
   list-is : Listed
   list-is = go (named s e .fields .extended) (named s e .extensions) (named s e .fields .extended-fit) (in-extended s e)
     where
-      go : (hs : List Head) → ExtensionsNamed s list last hs → Optional (explicit 3 extensions) s hs → ((h : Head) → In h hs → Element s h) → Listed
-      go [] (without m) absent k = no-list (ap (λ (h : Head). h .sound) m) ((λ i. childrenOf s (m i .body) (m i .end)) ∙ children-done s last last (le-refl last))
+      go : (hs : List Head) → ExtensionsNamed s list last hs → Optional (explicit 3 extensions) s hs → AllElements s hs → Listed
+      go [] (without m) absent k =
+          no-list (ap (λ (h : Head). h .sound) m) ((λ i. membersIn s (m i)) ∙ children-done s last last (le-refl last))
       go (h ∷ []) (listed is f) (present g) k =
-          let element : Element s list = members-of 0xA3 _ s h refl refl g (k h (List·Memᴰ·head refl)) list (among is (List·Memᴰ·head refl)) in
+          let element : Element s list = members-of 0xA3 _ s h refl refl g (k h here) list (among is here) in
           one-list element (in-fitting f element)
 
-  pub list-element : list .sound ≡ true → Element s list
+  list-element : list .sound ≡ true → Element s list
   list-element t = go list-is
     where
       go : Listed → Element s list
       go (no-list f n) = absurd (false≢true (sym f ∙ t))
       go (one-list k m) = k
 
-  pub in-list : (h : Head) → In h (extensionsOf s) → Element s h
+  in-list : AllElements s (extensionsOf s)
   in-list h i = go list-is
     where
       go : Listed → Element s h
       go (no-list f n) = absurd (List·Memᴰ·not-nil (among (sym n) i))
       go (one-list k m) = m h i
 
-  pub value-element : (h : Head) → In h (extensionsOf s) → Element s (octetStringOf s h)
+  pub value-element : (h : Head) → In h (extensionsOf s) → Element s (octetString s h)
   value-element h i =
       let n = named-in (certificate-extensions-named s e) i in
-      members-by s h (rw (n .tag) refl) (in-list h i) _ (among (n .is) (List·Memᴰ·tail (Memᴰ·append-right (n .boolean) (List·Memᴰ·head refl))))
+      members-by s h (ap constructed (n .tag)) (in-list h i) _ (among (n .is) (behind (Memᴰ·append-right (n .boolean) here)))
 
   -- the extension that starts where a slot says
-  pub slot-extension : (slot : ℕ) → slot < 11 → (getD (startsIn s) slot 0 ≡ 0 → ⊥) → StandsAt s (getD (startsIn s) slot 0) (list .end) (extensionsOf s)
-  slot-extension slot l n =
-      let start = start-at s (extensionsOf s) slot l in
-      rw start (start-among s slot (children-chain s (list .body) (list .end) (certificate-inside s .extensions .forward)) (λ z. n (start ∙ z)))
+  module _ (slot : ℕ) (l : slot < 11) where
+    abbrev start : ℕ
+    start = getD (startsIn s) slot 0
+
+    pub slot-extension : (start ≡ 0 → ⊥) → StandsAt s start (list .end) (extensionsOf s)
+    slot-extension n =
+        let is = start-at s (extensionsOf s) slot l in
+        let chain = children-chain s (list .body) (list .end) (certificate-inside s .extensions .forward) in
+        rw is (start-among s slot chain (λ z. n (is ∙ z)))
+
+    -- where a rule judges it
+    present-extension : (p : Profile) (rest : Bool) → (isPresent p start slot && rest) ≡ true → StandsAt s start (list .end) (extensionsOf s)
+    present-extension p rest t =
+        let there = and-l (not (eqb start 0)) (isJudged (markOf p slot)) (and-l (isPresent p start slot) rest t) in
+        slot-extension (eqb-false start 0 (not-true (eqb start 0) there))
 
   -- ---- rules 301 to 363
 
@@ -148,26 +175,21 @@ module _ (s : List ℕ) (e : certificateVerdict s ≡ Fits) where
     unfolding rule300
     missing-at slot l = noted-at _ _ _ (λ t. list-place)
 
-    -- a rule that judges the extension of a slot, if there is one
-    there-is : (slot : ℕ) (rest : Bool) → slot < 11 → (isPresent p (getD (startsIn s) slot 0) slot && rest) ≡ true → StandsAt s (getD (startsIn s) slot 0) (list .end) (extensionsOf s)
-    there-is slot rest l t =
-        let at = getD (startsIn s) slot 0 in
-        let there = and-l (not (eqb at 0)) (isJudged (markOf p slot)) (and-l (isPresent p at slot) rest t) in
-        slot-extension slot l (eqb-false at 0 (not-true (eqb at 0) there))
-
     criticality-at : (slot : ℕ) → slot < 11 → AtElements s (rule320 p s (certificateOf s) (startsIn s) slot)
     unfolding rule320 extensionFrom extensionOf
     criticality-at slot l =
-        let at = getD (startsIn s) slot 0 in
-        let rest = differs (extensionFrom s (certificateOf s) at .critical) (mustBeCritical p slot) in
-        noted-at _ (isPresent p at slot && rest) _ (λ t. let x = there-is slot rest l t in subst (λ (h : Head). Element s h) (sym (x .is)) (in-list (x .element) (x .among-them)))
+        let start = getD (startsIn s) slot 0 in
+        let other = differs (extensionFrom s (certificateOf s) start .critical) (mustBeCritical p slot) in
+        noted-at _ (isPresent p start slot && other) _
+        (λ t. let x = present-extension slot l p other t in same-element (x .is) (in-list (x .element) (x .listed)))
 
     value-at : (slot : ℕ) → slot < 11 → AtElements s (rule340 p s (certificateOf s) (startsIn s) (valuesIn s) slot)
     unfolding rule340 extensionFrom
     value-at slot l =
-        let at = getD (startsIn s) slot 0 in
-        let rest = eqb (getD (valuesIn s) slot 0) 0 in
-        noted-at _ (isPresent p at slot && rest) _ (λ t. let x = there-is slot rest l t in subst (λ (h : Head). Element s (octetStringOf s h)) (sym (x .is)) (value-element (x .element) (x .among-them)))
+        let start = getD (startsIn s) slot 0 in
+        let bad = eqb (getD (valuesIn s) slot 0) 0 in
+        noted-at _ (isPresent p start slot && bad) _
+        (λ t. let x = present-extension slot l p bad t in same-element (ap (octetString s) (x .is)) (value-element (x .element) (x .listed)))
 
     pub extensions-at : AtElements s (extensionFindings p s (certificateOf s) (startsIn s) (valuesIn s))
     unfolding extensionFindings identifierFindings

@@ -1,17 +1,16 @@
 -- The fields of a certificate that fits are elements of it, and so are the places of rules 101 to 111.
 --     field-elements       the fields
---     list-element         the extension list, if there is one
---     in-list              its members
+--     in-extended          the [3], if there is one
 --     fields-at            rules 101 to 111
 -- Assumes nothing.
-use mathlib.Core.Path.{_≡_, refl, sym, subst}
+use mathlib.Core.Path.{_≡_, refl, sym, _∙_}
 use mathlib.Core.List.{List, [], _∷_, _++_, Memᴰ·append-left, Memᴰ·append-right}
-use mathlib.Core.List.List·Memᴰ.{List·Memᴰ·head, List·Memᴰ·tail}
+use mathlib.Core.List.List·Memᴰ.{List·Memᴰ·tail as behind}
 use mathlib.Core.Bool.{Bool, true, false, cond}
 use Prim.Native.Nat.{ℕ}
 use lib.Dec.{eqb}
 use lib.ListN.{length}
-use Rattle.places.specs.Elements.{Element}
+use Rattle.places.specs.Elements.{Element, AllElements}
 use Rattle.places.specs.Elements.Element.{outermost}
 use Rattle.places.specs.Statement.{AtElements}
 use Rattle.der.specs.Header.{childrenOf}
@@ -20,6 +19,7 @@ use Rattle.asn.specs.Grammar.{fits}
 use Rattle.asn.specs.Grammar.Slots.{done}
 use Rattle.asn.specs.Answers.{certificateVerdict}
 use Rattle.asn.specs.Module.{certificate, tbsCertificate, validity}
+use Rattle.asn.specs.Fields.{TbsFields}
 use Rattle.asn.specs.declared.fitting.Verdict.the-variants.{Fits}
 use Rattle.asn.proofs.Laws.Fields.{one-fits}
 use Rattle.profiles.specs.declared.fields.Profile.{Profile}
@@ -28,13 +28,13 @@ use Rattle.certificate.specs.Named.{VersionNamed}
 use Rattle.certificate.specs.Named.VersionNamed.{unwritten, written}
 use Rattle.certificate.proofs.Laws.Named.{named}
 use Rattle.der.proofs.Laws.Members.{children-first}
-use Rattle.report.specs.Order.{In}
+use Rattle.der.specs.Members.{membersIn}
 use Rattle.rules_fields.specs.Version.{versionPlace, versionAndSerial}
 use Rattle.rules_fields.specs.Algorithms.{algorithmsAndName}
 use Rattle.rules_fields.specs.Period.{validityFindings}
 use Rattle.rules_fields.specs.Rules.{fieldFindings}
 use Rattle.places.proofs.Laws.Forms.{join-at, noted-at}
-use Rattle.places.proofs.Laws.Members.{among, members-of}
+use Rattle.places.proofs.Laws.Members.{AllMembers, here, among, same-element, members-of}
 
 pub record FieldElements (s : List ℕ) : Type 0 where
   pub tbs : Element s (certificateOf s .tbs)
@@ -52,74 +52,87 @@ pub record FieldElements (s : List ℕ) : Type 0 where
 module _ (s : List ℕ) (e : certificateVerdict s ≡ Fits) where
   -- ---- the members of the outermost element
 
-  whole-fits : fits certificate s (named s e .outermost .whole) ≡ Fits
+  abbrev whole : Head
+  whole = named s e .outermost .whole
+
+  abbrev tbs : Head
+  tbs = named s e .outermost .members .tbs
+
+  whole-fits : fits certificate s whole ≡ Fits
   unfolding certificateVerdict
   whole-fits =
       let a = one-fits certificate done s 0 (childrenOf s 0 (length s)) e in
-      let same : a .first ≡ named s e .outermost .whole = cc (a .is, named s e .outermost .is) in
+      let same : a .first ≡ whole = cc (a .is, named s e .outermost .is) in
       rw (← same) (a .fit)
 
-  whole-element : Element s (named s e .outermost .whole)
-  whole-element = subst (λ (h : Head). Element s h) (children-first s 0 (length s) _ _ (named s e .outermost .is) .is) outermost
+  whole-element : Element s whole
+  whole-element = same-element (sym (children-first s 0 (length s) _ _ (named s e .outermost .is) .is)) outermost
 
-  in-whole : (h : Head) → In h (childrenOf s (named s e .outermost .whole .body) (named s e .outermost .whole .end)) → Element s h
+  in-whole : AllMembers s whole
   unfolding certificate
-  in-whole = members-of 0x30 _ s _ refl refl whole-fits whole-element
+  in-whole = members-of 0x30 _ s whole refl refl whole-fits whole-element
 
-  tbs-element : Element s (named s e .outermost .members .tbs)
-  tbs-element = in-whole _ (among (named s e .outermost .members .is) (List·Memᴰ·head refl))
+  tbs-element : Element s tbs
+  tbs-element = in-whole tbs (among (named s e .outermost .members .is) here)
 
   -- ---- the members of the TBSCertificate
 
-  in-tbs : (h : Head) → In h (childrenOf s (named s e .outermost .members .tbs .body) (named s e .outermost .members .tbs .end)) → Element s h
+  in-tbs : AllMembers s tbs
   unfolding tbsCertificate
-  in-tbs = members-of 0x30 _ s _ refl refl (named s e .outermost .members .tbs-fits) tbs-element
+  in-tbs = members-of 0x30 _ s tbs refl refl (named s e .outermost .members .tbs-fits) tbs-element
 
-  abbrev behind-version : List Head
-  behind-version =
-      let f = named s e .fields in
-      f .serial ∷ f .algorithm ∷ f .issuer ∷ f .period ∷ f .subject ∷ f .key ∷ (f .issuer-id ++ (f .subject-id ++ f .extended))
+  abbrev fields : TbsFields s (membersIn s tbs)
+  fields = named s e .fields
 
-  field : {g h : Head} → h ≡ g → In g behind-version → Element s h
-  field q i = subst (λ (x : Head). Element s x) (sym q) (in-tbs _ (among (named s e .fields .is) (Memᴰ·append-right (named s e .fields .versions) i)))
+  -- those behind the version, and those behind the key
+  abbrev optional : List Head
+  optional = fields .issuer-id ++ (fields .subject-id ++ fields .extended)
 
-  serial-element : Element s (certificateOf s .serial)
-  serial-element = field (named s e .serial) (List·Memᴰ·head refl)
+  abbrev required : List Head
+  required = fields .serial ∷ fields .algorithm ∷ fields .issuer ∷ fields .period ∷ fields .subject ∷ fields .key ∷ optional
 
-  period-element : Element s (named s e .fields .period)
-  period-element = field refl (List·Memᴰ·tail (List·Memᴰ·tail (List·Memᴰ·tail (List·Memᴰ·head refl))))
+  in-required : AllElements s required
+  in-required h i = in-tbs h (among (fields .is) (Memᴰ·append-right (fields .versions) i))
 
-  in-period : (h : Head) → In h (childrenOf s (named s e .fields .period .body) (named s e .fields .period .end)) → Element s h
-  unfolding validity
-  in-period = members-of 0x30 _ s _ refl refl (named s e .fields .period-fits) period-element
-
-  pub in-extended : (h : Head) → In h (named s e .fields .extended) → Element s h
+  pub in-extended : AllElements s (fields .extended)
   in-extended h i =
-      let f = named s e .fields in
-      field refl (List·Memᴰ·tail (List·Memᴰ·tail (List·Memᴰ·tail (List·Memᴰ·tail (List·Memᴰ·tail (List·Memᴰ·tail (Memᴰ·append-right (f .issuer-id) (Memᴰ·append-right (f .subject-id) i))))))))
+      let last = Memᴰ·append-right (fields .issuer-id) (Memᴰ·append-right (fields .subject-id) i) in
+      in-required h (behind (behind (behind (behind (behind (behind last))))))
 
   version-element : Element s (certificateOf s .version)
-  version-element = go (named s e .fields .versions) (named s e .version) (λ h i. in-tbs h (among (named s e .fields .is) (Memᴰ·append-left behind-version i)))
+  version-element = go (fields .versions) (named s e .version) (λ h i. in-tbs h (among (fields .is) (Memᴰ·append-left required i)))
     where
-      go : (hs : List Head) → VersionNamed (certificateOf s .version) (certificateOf s .serial) hs → ((h : Head) → In h hs → Element s h) → Element s (certificateOf s .version)
-      go [] (unwritten q) k = subst (λ (h : Head). Element s h) (sym q) serial-element
-      go (h ∷ []) (written q) k = subst (λ (h : Head). Element s h) (sym q) (k h (List·Memᴰ·head refl))
+      version : Head
+      version = certificateOf s .version
+
+      go : (hs : List Head) → VersionNamed version (certificateOf s .serial) hs → AllElements s hs → Element s version
+      go [] (unwritten q) k = same-element (q ∙ named s e .serial) (in-required _ here)
+      go (h ∷ []) (written q) k = same-element q (k h here)
+
+  -- ---- the two times
+
+  period-element : Element s (fields .period)
+  period-element = in-required _ (behind (behind (behind here)))
+
+  in-period : AllMembers s (fields .period)
+  unfolding validity
+  in-period = members-of 0x30 _ s (fields .period) refl refl (fields .period-fits) period-element
 
   pub field-elements : FieldElements s
   field-elements =
       let n = named s e in
       record {
-        tbs = subst (λ (h : Head). Element s h) (sym (n .tbs)) tbs-element;
-        outer = subst (λ (h : Head). Element s h) (sym (n .outer)) (in-whole _ (among (n .outermost .members .is) (List·Memᴰ·tail (List·Memᴰ·head refl))));
+        tbs = same-element (n .tbs) tbs-element;
+        outer = same-element (n .outer) (in-whole _ (among (n .outermost .members .is) (behind here)));
         version = version-element;
-        serial = serial-element;
-        inner = field (n .inner) (List·Memᴰ·tail (List·Memᴰ·head refl));
-        issuer = field (n .issuer) (List·Memᴰ·tail (List·Memᴰ·tail (List·Memᴰ·head refl)));
-        period = subst (λ (h : Head). Element s h) (sym (n .period)) period-element;
-        before = in-period _ (among (n .times) (List·Memᴰ·head refl));
-        later = in-period _ (among (n .times) (List·Memᴰ·tail (List·Memᴰ·head refl)));
-        subject = field (n .subject) (List·Memᴰ·tail (List·Memᴰ·tail (List·Memᴰ·tail (List·Memᴰ·tail (List·Memᴰ·head refl)))));
-        key = field (n .key) (List·Memᴰ·tail (List·Memᴰ·tail (List·Memᴰ·tail (List·Memᴰ·tail (List·Memᴰ·tail (List·Memᴰ·head refl))))));
+        serial = same-element (n .serial) (in-required _ here);
+        inner = same-element (n .inner) (in-required _ (behind here));
+        issuer = same-element (n .issuer) (in-required _ (behind (behind here)));
+        period = same-element (n .period) period-element;
+        before = in-period _ (among (n .times) here);
+        later = in-period _ (among (n .times) (behind here));
+        subject = same-element (n .subject) (in-required _ (behind (behind (behind (behind here)))));
+        key = same-element (n .key) (in-required _ (behind (behind (behind (behind (behind here))))));
       }
 
   -- ---- rules 101 to 111

@@ -24,7 +24,8 @@ use Rattle.report.proofs.Laws.Members.{join-in, only-in, noted-in, each-in, one
 
 module _ {s : List ℕ} where
   at-element : (rule : ℕ) (h : Head) (e : Entry) → Element s h → e ≡ entryAt rule h → AtElement s e
-  at-element rule h e k q = record { element = h; is = k; start = ap (λ (f : Entry). f .place .start) q; whole = ap (λ (f : Entry). f .place .len) q }
+  at-element rule h e k q =
+      record { element = h; is = k; start = ap (λ (f : Entry). f .place .start) q; whole = ap (λ (f : Entry). f .place .len) q }
 
   -- ---- several rules
 
@@ -41,7 +42,8 @@ module _ {s : List ℕ} where
 
   module _ (rule : ℕ) (hs : List Head) (all : (h : Head) → In h hs → Element s h) where
     pub each-at : (bad : Head → Bool) → AtElements s (each rule bad hs)
-    each-at bad = record { each = λ e m. let b = each-in rule bad hs e .0 m in at-element rule (b .item) e (all (b .item) (b .among)) (b .entry) }
+    each-at bad =
+        record { each = λ e m. let b = each-in rule bad hs e .0 m in at-element rule (b .item) e (all (b .item) (b .among)) (b .entry) }
 
     pub one-at : (isX : Head → Bool) (name : Head) → Element s name → AtElements s (one rule isX name hs)
     one-at isX name k = record { each = λ e m. ⊎-elim (lacking e) (again e) (one-in rule isX name hs e .0 m) }
@@ -59,6 +61,9 @@ unfolding firstOf
 first-among isX end [] e = absurd (false≢true (cc (e, le-leb end end (le-refl end))))
 first-among isX end (h ∷ hs) e = go (first-among isX end hs) (isX h) e
   where
-    go : (isEmpty (firstOf isX end hs) ≡ false → In (firstOf isX end hs) hs) → (b : Bool) → isEmpty (cond b h (firstOf isX end hs)) ≡ false → In (cond b h (firstOf isX end hs)) (h ∷ hs)
+    first : Bool → Head
+    first b = cond b h (firstOf isX end hs)
+
+    go : (isEmpty (first false) ≡ false → In (first false) hs) → (b : Bool) → isEmpty (first b) ≡ false → In (first b) (h ∷ hs)
     go ih true e = List·Memᴰ·head refl
     go ih false e = List·Memᴰ·tail (ih e)

@@ -1,4 +1,4 @@
--- The places of rules 112 to 121: "the name is a SEQUENCE OF SET OF SEQUENCE" by the grammar.
+-- The places of rules 112 to 121. A name is a SEQUENCE OF SET OF SEQUENCE by the grammar.
 --     subject-at          rules 112 to 121
 -- Assumes nothing.
 use mathlib.Core.Path.{_≡_, refl}
@@ -6,10 +6,9 @@ use mathlib.Core.List.{List}
 use mathlib.Core.Bool.{Bool, true, not, _&&_}
 use Prim.Native.Nat.{ℕ}
 use borrow.Author.Tests.{not-true}
-use Rattle.places.specs.Elements.{Element}
+use Rattle.places.specs.Elements.{Element, AllElements}
 use Rattle.places.specs.Statement.{AtElements}
 use Rattle.octets.proofs.Laws.Tests.{and-l, and-r}
-use Rattle.der.specs.Header.{childrenOf}
 use Rattle.der.specs.Contents.{contentsOf}
 use Rattle.der.specs.declared.header.Head.{Head}
 use Rattle.asn.specs.Grammar.{fits}
@@ -20,6 +19,7 @@ use Rattle.asn.proofs.Laws.Fields.{parts-fit}
 use Rattle.profiles.specs.Fields.{isServer, isDomain, isOrganization}
 use Rattle.profiles.specs.declared.fields.Profile.{Profile}
 use Rattle.attributes.specs.Types.{valueOf}
+use Rattle.der.specs.Members.{membersIn}
 use Rattle.names.specs.Names.{someNamed}
 use Rattle.certificate.specs.Fields.{certificateOf}
 use Rattle.certificate.proofs.Laws.Named.{named}
@@ -30,7 +30,7 @@ use Rattle.rules_subject.specs.Attributes.{attributesIn, isA, everySubject, org
 use Rattle.rules_subject.specs.CommonName.{firstCommonName, isUnnamed, nameAndSets}
 use Rattle.rules_subject.specs.Rules.{subjectFindings}
 use Rattle.places.proofs.Laws.Forms.{join-at, only-at, noted-at, each-at, one-at, first-among}
-use Rattle.places.proofs.Laws.Members.{members-of, in-each, many-fit}
+use Rattle.places.proofs.Laws.Members.{AllMembers, members-of, in-each, many-fit}
 use Rattle.places.proofs.Laws.Fields.{field-elements}
 
 -- ---- of a certificate that fits
@@ -42,21 +42,21 @@ module _ (s : List ℕ) (e : certificateVerdict s ≡ Fits) where
   subject-fits : fits name s subject ≡ Fits
   subject-fits = rw (named s e .subject) (named s e .fields .subject-fits)
 
-  in-name : (h : Head) → In h (childrenOf s (subject .body) (subject .end)) → Element s h
+  in-name : AllMembers s subject
   unfolding name
   in-name = members-of 0x30 _ s _ refl refl subject-fits (field-elements s e .subject)
 
-  set-fits : (h : Head) → In h (childrenOf s (subject .body) (subject .end)) → fits relativeDistinguishedName s h ≡ Fits
+  set-fits : (h : Head) → In h (membersIn s subject) → fits relativeDistinguishedName s h ≡ Fits
   unfolding name
-  set-fits = many-fit relativeDistinguishedName s (subject .at) _ (parts-fit 0x30 _ s subject subject-fits .1)
+  set-fits = many-fit relativeDistinguishedName s (subject .at) (membersIn s subject) (parts-fit 0x30 _ s subject subject-fits .1)
 
-  in-set : (x : Head) → In x (childrenOf s (subject .body) (subject .end)) → (h : Head) → In h (childrenOf s (x .body) (x .end)) → Element s h
+  in-set : (x : Head) → In x (membersIn s subject) → AllMembers s x
   unfolding relativeDistinguishedName
   in-set x i = members-of 0x31 _ s x refl refl (set-fits x i) (in-name x i)
 
-  attribute : (h : Head) → In h (attributesIn s subject) → Element s h
+  attribute : AllElements s (attributesIn s subject)
   unfolding grandchildren
-  attribute = in-each s (childrenOf s (subject .body) (subject .end)) in-set
+  attribute = in-each s (membersIn s subject) in-set
 
   at-each : (rule : ℕ) (bad : Head → Bool) → AtElements s (each rule bad (attributesIn s subject))
   at-each rule bad = each-at rule (attributesIn s subject) attribute bad
@@ -65,13 +65,16 @@ module _ (s : List ℕ) (e : certificateVerdict s ≡ Fits) where
   at-one rule isX = one-at rule (attributesIn s subject) attribute isX subject (field-elements s e .subject)
 
   -- 120 is not judged without a CN
-  common-name : (p : Profile) (alternative : Head) → isUnnamed p s (firstCommonName s subject) alternative ≡ true → Element s (firstCommonName s subject)
+  common-name : (p : Profile) (alternative : Head) → isUnnamed p s (firstCommonName s subject) alternative ≡ true
+      → Element s (firstCommonName s subject)
   unfolding isUnnamed
   common-name p alternative t =
       let cn = firstCommonName s subject in
-      let rest = not (someNamed s (contentsOf s (valueOf s cn)) (childrenOf s (alternative .body) (alternative .end))) in
-      let judged = and-r (isServer p) (not (isEmpty cn) && alternative .sound) (and-l (isServer p && (not (isEmpty cn) && alternative .sound)) rest t) in
-      attribute cn (first-among (isA 3 s) (subject .end) (attributesIn s subject) (not-true (isEmpty cn) (and-l (not (isEmpty cn)) (alternative .sound) judged)))
+      let found = not (isEmpty cn) in
+      let unnamed = not (someNamed s (contentsOf s (valueOf s cn)) (membersIn s alternative)) in
+      let judged = and-r (isServer p) (found && alternative .sound) (and-l (isServer p && (found && alternative .sound)) unnamed t) in
+      let some = not-true (isEmpty cn) (and-l found (alternative .sound) judged) in
+      attribute cn (first-among (isA 3 s) (subject .end) (attributesIn s subject) some)
 
   pub subject-at : (p : Profile) (alternative : Head) → AtElements s (subjectFindings p s subject alternative)
   unfolding subjectFindings everySubject organizationFindings stateFindings nameAndSets

@@ -1,27 +1,28 @@
 -- Every entry of a report is at an element of the certificate, and each of those is sound.
 --     places
 -- Assumes nothing.
-use mathlib.Core.Path.{_≡_, refl}
+use mathlib.Core.Path.{_≡_, refl, sym, ap, _∙_, subst}
 use mathlib.Core.List.{List}
+use mathlib.Core.Bool.{Bool, true, false, cond}
 use Prim.Native.Nat.{ℕ}
 use native.Mathlib.Omega.{arith}
 use lib.ListN.{length}
 use Rattle.places.specs.Elements.{subjectKey}
 use Rattle.places.specs.Statement.{AtElements, Places}
-use Rattle.der.specs.Soundness.{derSoundness}
-use Rattle.der.specs.declared.walk.Soundness.{Soundness}
-use Rattle.der.specs.declared.walk.Soundness.the-variants.{Sound, Unsound, Unordered}
 use Rattle.asn.specs.Answers.{certificateVerdict}
-use Rattle.asn.specs.declared.fitting.Verdict.{Verdict}
 use Rattle.asn.specs.declared.fitting.Verdict.the-variants.{Fits}
 use Rattle.profiles.specs.declared.fields.Profile.{Profile}
+use Rattle.report.specs.Answers.{fits, filled}
+use Rattle.report.specs.Entries.{decode}
+use Rattle.report.specs.declared.sink.Entry.{Entry}
 use Rattle.lint.specs.Findings.{Known, knownOf, allFindings, findingsFor, findings}
-use Rattle.lint.specs.Judging.{bySoundness, sideJudgement, orElse, bothSides, admissionOf, onceAdmitted, judgementOf}
-use Rattle.lint.specs.declared.refusals.Refusal.{Refusal}
-use Rattle.lint.specs.declared.refusals.Side.the-variants.{Certificate}
+use Rattle.lint.specs.Judging.{judgementOf}
+use Rattle.lint.specs.Answers.{answerTo, answerBy, roomBy, answerOf, roomOf}
+use Rattle.lint.specs.declared.refusals.Refusal.the-variants.{NoRoom}
 use Rattle.lint.specs.declared.judging.Judgement.{Judgement}
-use Rattle.lint.specs.declared.judging.Judgement.the-variants.{Accepted, Refused}
+use Rattle.lint.specs.declared.linting.Answer.the-variants.{Report, Refused}
 use Rattle.lint.proofs.Laws.Accepted.{accepted-fits}
+use Rattle.lint.proofs.Laws.Order.{findings-back}
 use Rattle.places.proofs.Laws.Soundness.{element-sound}
 use Rattle.places.proofs.Laws.Forms.{join-at}
 use Rattle.places.proofs.Laws.Fields.{fields-at}
@@ -29,6 +30,8 @@ use Rattle.places.proofs.Laws.Key.{key-at}
 use Rattle.places.proofs.Laws.Subject.{subject-at}
 use Rattle.places.proofs.Laws.Extensions.{extensions-at}
 use Rattle.places.proofs.Laws.Values.{values-at}
+use Rattle.places.proofs.Laws.Accepted.{accepted-sound}
+use Rattle.lint.specs.declared.judging.Judgement.the-variants as Judgements
 
 -- whatever is known of the issuer
 known-at : (p : Profile) (s : List ℕ) (k : Known) → certificateVerdict s ≡ Fits → AtElements s (findingsFor p s k)
@@ -38,36 +41,41 @@ known-at p s k e =
     (join-at (subject-at s e p _)
     (join-at (key-at s e p) (join-at (extensions-at s e p) (values-at s e p (subjectKey s .kind) (k .key)))))
 
-findings-at : (p : Profile) (s issuer : List ℕ) → certificateVerdict s ≡ Fits → AtElements s (findings p s issuer)
-unfolding findings
-findings-at p s issuer e = known-at p s (knownOf issuer) e
+module _ (s issuer : List ℕ) (profile : ℕ) where
+  findings-at : (p : Profile) → judgementOf s issuer profile ≡ Judgements.Accepted p → AtElements s (findings p s issuer)
+  unfolding findings
+  findings-at p e = known-at p s (knownOf issuer) (accepted-fits s issuer profile p e)
 
--- ---- what is accepted is sound DER
+  -- ---- what the linter answers
 
-refused : (r : Refusal) (p : Profile) → Refused r ≡ Accepted p → ⊥
-refused r p e =
-    let z : _≡_ {A = ℕ} 0 1 = cc e in
-    omega arith
+  module _ (room : List ℕ) (n : ℕ) where
+    -- a count is given where there is room, and is that of the findings
+    counted : (es : List Entry) → answerTo es room ≡ Report n → (fits es room ≡ true) × (n ≡ length es)
+    unfolding answerTo
+    counted es = go (fits es room)
+      where
+        go : (b : Bool) → cond b (Report (length es)) (Refused NoRoom) ≡ Report n → (b ≡ true) × (n ≡ length es)
+        go true e = (refl, cc)
+        go false e = (cc, cc)
 
-side-sound : (q p : Profile) (found : Soundness) (v : Verdict) (issuer : Judgement) → orElse (bySoundness q Certificate found v) issuer ≡ Accepted p → found ≡ Sound
-side-sound q p Sound v issuer e = refl
-side-sound q p (Unsound place) v issuer e = absurd (refused _ p e)
-side-sound q p (Unordered place) v issuer e = absurd (refused _ p e)
+    answered : (j : Judgement) → judgementOf s issuer profile ≡ j → answerBy j s issuer room ≡ Report n
+        → AtElements s (decode n (roomBy j s issuer room))
+    answered (Judgements.Refused r) q e = let z : _≡_ {A = ℕ} 0 1 = cc e in absurd (omega arith)
+    answered (Judgements.Accepted p) q e =
+        let c = counted (findings p s issuer) e in
+        let back = ap (λ (m : ℕ). decode m (filled (findings p s issuer) room)) (c .1) ∙ findings-back p s issuer profile room q (c .0) in
+        subst (λ (es : List Entry). AtElements s es) (sym back) (findings-at p q)
 
-once-sound : (admission : Judgement) (p : Profile) (s issuer : List ℕ) → onceAdmitted admission s issuer ≡ Accepted p → derSoundness s ≡ Sound
-unfolding bothSides sideJudgement
-once-sound (Refused r) p s issuer e = absurd (refused r p e)
-once-sound (Accepted q) p s issuer e = side-sound q p (derSoundness s) (certificateVerdict s) _ e
+    report-at : answerOf s issuer profile room ≡ Report n → AtElements s (decode n (roomOf s issuer profile room))
+    unfolding answerOf roomOf
+    report-at e = answered (judgementOf s issuer profile) refl e
 
-accepted-sound : (s issuer : List ℕ) (profile : ℕ) (p : Profile) → judgementOf s issuer profile ≡ Accepted p → derSoundness s ≡ Sound
-unfolding judgementOf
-accepted-sound s issuer profile p e = once-sound (admissionOf (length s) (length issuer) profile) p s issuer e
+  -- ---- the statement
 
--- ---- the statement
-
-pub places : Places
-places =
-    record {
-      findings-elements = λ s issuer profile p e. findings-at p s issuer (accepted-fits s issuer profile p e);
-      elements-sound = λ s issuer profile p e h k. element-sound s (accepted-sound s issuer profile p e) h k;
-    }
+  pub places : Places s issuer profile
+  places =
+      record {
+        findings-elements = findings-at;
+        elements-sound = λ p e. element-sound s (accepted-sound p s issuer profile e);
+        report-elements = report-at;
+      }

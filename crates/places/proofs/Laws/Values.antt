@@ -1,26 +1,19 @@
 -- The places of rules 401 to 419: "Place: the OCTET STRING, or the item for 'each'".
 --     values-at           rules 401 to 419
 -- Assumes nothing.
-use mathlib.Core.Path.{_≡_, refl, sym, ap, subst, _∙_}
-use mathlib.Core.List.{List, [], _∷_, _++_, append-nil, map, List·Memᴰ·not-nil}
-use mathlib.Core.List.List·Memᴰ.{List·Memᴰ·head, List·Memᴰ·tail}
+use mathlib.Core.Path.{_≡_, refl, sym, subst, _∙_}
+use mathlib.Core.List.{List, map, List·Memᴰ·not-nil}
 use mathlib.Core.Bool.{Bool, true, false, _&&_, false≢true}
 use Prim.Native.Nat.{ℕ, _<_}
-use native.Mathlib.Nat.{le-refl}
 use native.Mathlib.Omega.{arith}
-use Rattle.places.specs.Elements.{Element}
+use Rattle.places.specs.Elements.{Element, AllElements}
 use Rattle.places.specs.Statement.{AtElements}
 use Rattle.octets.proofs.Laws.Tests.{and-l, and-r}
-use Rattle.der.specs.Header.{childrenOf}
 use Rattle.der.specs.declared.header.Head.{Head}
-use Rattle.der.proofs.Laws.Children.{children-done}
 use Rattle.asn.specs.Grammar.{Form, fits}
 use Rattle.asn.specs.Answers.{certificateVerdict}
-use Rattle.asn.specs.Module.{oid, sequenceOf, valueOf, judged, extKeyUsage, certificatePolicies, policyInformation, policyQualifierInfo, generalName, generalNames, accessDescription, authorityInfoAccess, distributionPoint, cRLDistributionPoints}
-use Rattle.asn.specs.Fields.{Optional}
-use Rattle.asn.specs.Fields.Optional.{absent, present}
+use Rattle.asn.specs.Module.{oid, sequenceOf, valueOf, judged, policyInformation, generalName, accessDescription, distributionPoint, extKeyUsage, certificatePolicies, generalNames, authorityInfoAccess, cRLDistributionPoints}
 use Rattle.asn.specs.declared.fitting.Verdict.the-variants.{Fits}
-use Rattle.asn.proofs.Laws.Fields.{parts-fit, one-fits, opt-fits, done-fits}
 use Rattle.profiles.specs.Fields.{isServer}
 use Rattle.profiles.specs.declared.fields.Profile.{Profile}
 use Rattle.profiles.specs.declared.fields.Profile.the-variants.{Domain, Organization, Responder}
@@ -28,7 +21,6 @@ use Rattle.certificate.specs.Slots.{valueAt}
 use Rattle.certificate.specs.declared.key.KeyKind.{KeyKind}
 use Rattle.certificate.specs.declared.slots.Value.{Value}
 use Rattle.der.specs.Members.{membersIn}
-use Rattle.der.proofs.Laws.Members.{second-is, second-none}
 use Rattle.values.specs.Identifiers.{KeyIdentifier, otherAuthority}
 use Rattle.values.specs.Usage.{unsignedOf, otherUsage}
 use Rattle.values.specs.Purposes.{noWantedPurpose}
@@ -45,9 +37,10 @@ use Rattle.rules_values.specs.Points.{pointFindings}
 use Rattle.rules_values.specs.Rules.{valueFindings}
 use Rattle.lint.specs.Findings.{valuesIn}
 use Rattle.places.proofs.Laws.Forms.{join-at, noted-at, each-at}
-use Rattle.places.proofs.Laws.Members.{among, members-of, in-each, in-mapped, listed-fit}
-use Rattle.places.proofs.Laws.Good.{SlotValue, slot-value}
-use Rattle.places.proofs.Laws.Good.SlotValue.{lacking, good}
+use Rattle.places.proofs.Laws.Members.{AllMembers, among, members-of, in-each, in-mapped, listed-fit}
+use Rattle.places.proofs.Laws.Policies.{qualifiers-of}
+use Rattle.places.proofs.Laws.SlotValues.{SlotValue, slot-value}
+use Rattle.places.proofs.Laws.SlotValues.SlotValue.{lacking, good}
 
 -- ---- a rule on the whole value is broken by a sound one alone
 
@@ -71,39 +64,17 @@ module _ (s : List ℕ) (slot : ℕ) (v : Value) (k : SlotValue s slot v) where
   -- ---- the items of a SEQUENCE OF
 
   module _ (f : Form) (type : valueOf slot ≡ sequenceOf f) where
-    item : (h : Head) → In h (membersIn s (v .element)) → Element s h
+    item : (h : Head) → In h (membersIn s (v .element)) → Element s h × (fits f s h ≡ Fits)
     item h i = go k
       where
-        go : SlotValue s slot v → Element s h
+        go : SlotValue s slot v → Element s h × (fits f s h ≡ Fits)
         go (lacking n) = absurd (List·Memᴰ·not-nil (among (sym (n .nothing)) i))
-        go (good g) = members-of 0x30 _ s (v .element) refl refl (subst (λ (t : Form). fits t s (v .element) ≡ Fits) type (g .fit)) (g .element) h i
+        go (good g) =
+            let whole : fits (sequenceOf f) s (v .element) ≡ Fits = subst (λ (t : Form). fits t s (v .element) ≡ Fits) type (g .fit) in
+            (members-of 0x30 _ s (v .element) refl refl whole (g .element) h i, listed-fit f s (v .element) whole h i)
 
-    item-fits : (h : Head) → In h (membersIn s (v .element)) → fits f s h ≡ Fits
-    item-fits h i = go k
-      where
-        go : SlotValue s slot v → fits f s h ≡ Fits
-        go (lacking n) = absurd (List·Memᴰ·not-nil (among (sym (n .nothing)) i))
-        go (good g) = listed-fit f s (v .element) (subst (λ (t : Form). fits t s (v .element) ≡ Fits) type (g .fit)) h i
-
--- ---- the qualifiers of policies
-
-second-members : (s : List ℕ) (policy : Head) → fits policyInformation s policy ≡ Fits → Element s policy → (h : Head) → In h (childrenOf s (qualifiersOf s policy .body) (qualifiersOf s policy .end)) → Element s h
-unfolding policyInformation
-second-members s policy e k =
-    let a = one-fits _ _ s (policy .at) _ (parts-fit 0x30 _ s policy e .1) in
-    let b = opt-fits _ _ s (policy .at) _ (a .more) in
-    let d = done-fits s (policy .at) _ (b .more) in
-    let all : membersIn s policy ≡ a .first ∷ b .front = a .is ∙ ap (λ (l : List Head). a .first ∷ l) (b .is ∙ (ap (λ (l : List Head). b .front ++ l) d ∙ append-nil (b .front))) in
-    go (a .first) (b .front) (b .fit) all
-  where
-    go : (x : Head) (front : List Head) → Optional (sequenceOf policyQualifierInfo) s front → membersIn s policy ≡ x ∷ front → (h : Head) → In h (childrenOf s (qualifiersOf s policy .body) (qualifiersOf s policy .end)) → Element s h
-    go x [] absent is h i =
-        let none = second-none s policy x is in
-        absurd (List·Memᴰ·not-nil (among (sym ((λ j. childrenOf s (none j .body) (none j .end)) ∙ children-done s (policy .end) (policy .end) (le-refl (policy .end)))) i))
-    go x (g ∷ []) (present f) is h i =
-        let here : qualifiersOf s policy ≡ g = second-is s policy x g [] is in
-        let element = members-of 0x30 _ s policy refl refl e k g (among is (List·Memᴰ·tail (List·Memᴰ·head refl))) in
-        members-of 0x30 _ s g refl refl f element h (among (λ j. childrenOf s (sym here j .body) (sym here j .end)) i)
+    items : AllMembers s (v .element)
+    items h i = item h i .0
 
 -- ---- rules 401 to 419
 
@@ -111,40 +82,41 @@ module _ (s : List ℕ) (e : certificateVerdict s ≡ Fits) where
   abbrev value : ℕ → Value
   value slot = valueAt s (valuesIn s) slot
 
-  purpose : (h : Head) → In h (membersIn s (value 5 .element)) → Element s h
+  purpose : AllMembers s (value 5 .element)
   unfolding valueOf judged extKeyUsage
-  purpose = item s 5 (value 5) (slot-value s e 5 (omega arith)) oid refl
+  purpose = items s 5 (value 5) (slot-value s e 5 (omega arith)) oid refl
 
-  name : (h : Head) → In h (membersIn s (value 7 .element)) → Element s h
+  name : AllMembers s (value 7 .element)
   unfolding valueOf judged generalNames
-  name = item s 7 (value 7) (slot-value s e 7 (omega arith)) generalName refl
+  name = items s 7 (value 7) (slot-value s e 7 (omega arith)) generalName refl
 
-  access : (h : Head) → In h (membersIn s (value 8 .element)) → Element s h
+  access : AllMembers s (value 8 .element)
   unfolding valueOf judged authorityInfoAccess
-  access = item s 8 (value 8) (slot-value s e 8 (omega arith)) accessDescription refl
+  access = items s 8 (value 8) (slot-value s e 8 (omega arith)) accessDescription refl
 
-  point : (h : Head) → In h (membersIn s (value 9 .element)) → Element s h
+  point : AllMembers s (value 9 .element)
   unfolding valueOf judged cRLDistributionPoints
-  point = item s 9 (value 9) (slot-value s e 9 (omega arith)) distributionPoint refl
+  point = items s 9 (value 9) (slot-value s e 9 (omega arith)) distributionPoint refl
 
-  in-policy : (x : Head) → In x (membersIn s (value 6 .element)) → (h : Head) → In h (childrenOf s (qualifiersOf s x .body) (qualifiersOf s x .end)) → Element s h
+  in-policy : (x : Head) → In x (membersIn s (value 6 .element)) → AllMembers s (qualifiersOf s x)
   unfolding valueOf judged certificatePolicies
   in-policy x i =
-      let k = slot-value s e 6 (omega arith) in
-      second-members s x (item-fits s 6 (value 6) k policyInformation refl x i) (item s 6 (value 6) k policyInformation refl x i)
+      let policy = item s 6 (value 6) (slot-value s e 6 (omega arith)) policyInformation refl x i in
+      qualifiers-of s x (policy .1) (policy .0)
 
-  qualifier : (h : Head) → In h (qualifiersIn s (value 6 .element .body) (value 6 .element .end)) → Element s h
+  qualifier : AllElements s (qualifiersIn s (value 6 .element .body) (value 6 .element .end))
   unfolding qualifiersIn
   qualifier =
       in-each s (map (qualifiersOf s) (membersIn s (value 6 .element)))
-      (in-mapped (λ (x : Head). (h : Head) → In h (childrenOf s (x .body) (x .end)) → Element s h) (qualifiersOf s) (membersIn s (value 6 .element)) in-policy)
+      (in-mapped (λ (x : Head). AllMembers s x) (qualifiersOf s) (membersIn s (value 6 .element)) in-policy)
 
-  -- a rule on the value of a slot, and one that is judged for some profiles
-  at-value : (slot : ℕ) → slot < 11 → (rule : ℕ) (broken : Bool) → AtElements s (noted rule (value slot .element .sound && broken) (value slot .holder))
-  at-value slot l = judged-at s slot (value slot) (slot-value s e slot l)
+  -- a rule on the whole value of a slot, and one that is judged for some profiles
+  module _ (slot : ℕ) (l : slot < 11) (rule : ℕ) where
+    at-value : (broken : Bool) → AtElements s (noted rule (value slot .element .sound && broken) (value slot .holder))
+    at-value = judged-at s slot (value slot) (slot-value s e slot l) rule
 
-  at-guarded : (slot : ℕ) → slot < 11 → (rule : ℕ) (guard broken : Bool) → AtElements s (noted rule (guard && (value slot .element .sound && broken)) (value slot .holder))
-  at-guarded slot l = guarded-at s slot (value slot) (slot-value s e slot l)
+    at-guarded : (guard broken : Bool) → AtElements s (noted rule (guard && (value slot .element .sound && broken)) (value slot .holder))
+    at-guarded = guarded-at s slot (value slot) (slot-value s e slot l) rule
 
   forum-at : (p : Profile) → AtElements s (rule410 p s (value 6))
   unfolding lacksPolicy
@@ -155,7 +127,9 @@ module _ (s : List ℕ) (e : certificateVerdict s ≡ Fits) where
   module _ (p : Profile) (kind : KeyKind) (key : KeyIdentifier) where
     identifiers-at : AtElements s (identifierFindings p s (valuesIn s) key)
     unfolding identifierFindings otherAuthority
-    identifiers-at = join-at (at-value 1 (omega arith) 401 _) (join-at (at-guarded 2 (omega arith) 402 (isServer p) _) (at-value 3 (omega arith) 403 _))
+    identifiers-at =
+        join-at (at-value 1 (omega arith) 401 _)
+        (join-at (at-guarded 2 (omega arith) 402 (isServer p) _) (at-value 3 (omega arith) 403 _))
 
     usage-at : AtElements s (usageFindings p s kind (valuesIn s))
     unfolding usageFindings unsignedOf otherUsage
@@ -175,7 +149,9 @@ module _ (s : List ℕ) (e : certificateVerdict s ≡ Fits) where
 
     access-at : AtElements s (accessFindings p s (valuesIn s))
     unfolding accessFindings
-    access-at = join-at (at-guarded 8 (omega arith) 415 (isServer p) _) (join-at (at-value 8 (omega arith) 416 _) (each-at 417 _ access _))
+    access-at =
+        join-at (at-guarded 8 (omega arith) 415 (isServer p) _)
+        (join-at (at-value 8 (omega arith) 416 _) (each-at 417 _ access _))
 
     points-at : AtElements s (pointFindings s (valuesIn s))
     unfolding pointFindings
@@ -183,4 +159,6 @@ module _ (s : List ℕ) (e : certificateVerdict s ≡ Fits) where
 
     pub values-at : AtElements s (valueFindings p s kind (valuesIn s) key)
     unfolding valueFindings
-    values-at = join-at identifiers-at (join-at usage-at (join-at purposes-at (join-at policies-at (join-at hosts-at (join-at access-at points-at)))))
+    values-at =
+        join-at identifiers-at
+        (join-at usage-at (join-at purposes-at (join-at policies-at (join-at hosts-at (join-at access-at points-at)))))
