@@ -91,13 +91,14 @@ module _ (s : List ℕ) (slot : ℕ) where
       go ih true false n = record { element = h; is = ap (λ (i : ℕ). headOf s i end) (head-start s at end); listed = here }
       go ih false u n = later (ih n)
 
-abbrev octetString : List ℕ → Head → Head
-octetString s h = extensionOf s h .value
-
 slots-at : {s : List ℕ} (f : ℕ → List Entry) → ((slot : ℕ) → slot < 11 → AtElements s (f slot)) → AtElements s (overSlots f)
 slots-at f k = record { each = λ e m. let p = slots-in f e .0 m in k (p .0) (p .2) .each e (p .3) }
 
 -- ---- the list of a certificate that fits
+
+-- the value of an Extension
+abbrev pub octetString : List ℕ → Head → Head
+octetString s h = extensionOf s h .value
 
 module _ (s : List ℕ) (e : certificateVerdict s ≡ Fits) where
   abbrev list : Head
