@@ -5,6 +5,7 @@ pub mod Members
 pub mod Fields
 pub mod Key
 pub mod Subject
+pub mod Starts
 pub mod Extensions
 pub mod SlotValues
 pub mod Policies

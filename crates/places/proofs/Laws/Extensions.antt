@@ -16,12 +16,8 @@ use borrow.Author.Tests.{eqb-false, not-true}
 use Rattle.places.specs.Elements.{extensionsOf, Element, AllElements}
 use Rattle.places.specs.Statement.{AtElements}
 use Rattle.octets.proofs.Laws.Tests.{and-l}
-use Rattle.der.specs.Header.{headOf}
 use Rattle.der.specs.Contents.{constructed}
-use Rattle.der.specs.Walking.{Chain}
-use Rattle.der.specs.Walking.Chain.{done, next}
 use Rattle.der.specs.declared.header.Head.{Head}
-use Rattle.der.proofs.Laws.Header.{head-start}
 use Rattle.der.proofs.Laws.Children.{children-done}
 use Rattle.der.proofs.Laws.Walking.{children-chain}
 use Rattle.asn.specs.Grammar.{fits}
@@ -33,8 +29,7 @@ use Rattle.asn.specs.declared.fitting.Verdict.the-variants.{Fits}
 use Rattle.profiles.specs.Extensions.{markOf, mustBeCritical, isJudged}
 use Rattle.profiles.specs.declared.fields.Profile.{Profile}
 use Rattle.certificate.specs.Fields.{certificateOf}
-use Rattle.certificate.specs.Extensions.{slotOf, extensionOf}
-use Rattle.certificate.specs.Slots.{startIn}
+use Rattle.certificate.specs.Extensions.{extensionOf}
 use Rattle.certificate.specs.Named.{ExtensionsNamed, ExtensionNamed, AllNamed}
 use Rattle.certificate.specs.Named.ExtensionsNamed.{without, listed}
 use Rattle.certificate.specs.Named.AllNamed.{none, more}
@@ -52,6 +47,7 @@ use Rattle.rules_extensions.proofs.Laws.Slots.{slots-in}
 use Rattle.lint.specs.Findings.{startsIn, valuesIn}
 use Rattle.places.proofs.Laws.Forms.{join-at, noted-at, each-at}
 use Rattle.places.proofs.Laws.Members.{here, among, same-element, members-by, members-of}
+use Rattle.places.proofs.Laws.Starts.{StandsAt, start-among}
 use Rattle.places.proofs.Laws.Fields.{field-elements, in-extended}
 
 -- ---- one of several
@@ -61,43 +57,14 @@ named-in none i = absurd (List·Memᴰ·not-nil i)
 named-in {s} {h} (more {h = x} {hs = xs} k ks) i =
     ⊎-elim (λ (q : h ≡ x). subst (λ (y : Head). ExtensionNamed s y) (sym q) k) (λ (j : In h xs). named-in ks j) (List·Memᴰ·cases-cons i)
 
--- among the elements of a stretch that ends at end there is one at a place
-pub record StandsAt (s : List ℕ) (place end : ℕ) (hs : List Head) : Type 0 where
-  pub element : Head
-  pub is : headOf s place end ≡ element
-  pub listed : In element hs
-
-module _ (s : List ℕ) (slot : ℕ) where
-  start-among : {end at : ℕ} {hs : List Head} → Chain s end at hs → (startIn s hs slot ≡ 0 → ⊥) → StandsAt s (startIn s hs slot) end hs
-  unfolding startIn
-  start-among done n = absurd (n refl)
-  start-among {end} (next {at = at} {hs = hs} l c) n = go (λ m. start-among c m) (eqb (slotOf s h) slot) (eqb (h .at) 0) n
-    where
-      h : Head
-      h = headOf s at end
-
-      rest : ℕ
-      rest = startIn s hs slot
-
-      later : StandsAt s rest end hs → StandsAt s rest end (h ∷ hs)
-      later k = record { element = k .element; is = k .is; listed = behind (k .listed) }
-
-      -- t is whether h is in the slot, u whether it starts at 0
-      start : Bool → Bool → ℕ
-      start t u = cond t (cond u rest (h .at)) rest
-
-      go : ((rest ≡ 0 → ⊥) → StandsAt s rest end hs) → (t u : Bool) → (start t u ≡ 0 → ⊥) → StandsAt s (start t u) end (h ∷ hs)
-      go ih true true n = later (ih n)
-      go ih true false n = record { element = h; is = ap (λ (i : ℕ). headOf s i end) (head-start s at end); listed = here }
-      go ih false u n = later (ih n)
-
-abbrev octetString : List ℕ → Head → Head
-octetString s h = extensionOf s h .value
-
 slots-at : {s : List ℕ} (f : ℕ → List Entry) → ((slot : ℕ) → slot < 11 → AtElements s (f slot)) → AtElements s (overSlots f)
 slots-at f k = record { each = λ e m. let p = slots-in f e .0 m in k (p .0) (p .2) .each e (p .3) }
 
 -- ---- the list of a certificate that fits
+
+-- the value of an Extension
+abbrev pub octetString : List ℕ → Head → Head
+octetString s h = extensionOf s h .value
 
 module _ (s : List ℕ) (e : certificateVerdict s ≡ Fits) where
   abbrev list : Head

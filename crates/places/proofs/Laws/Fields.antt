@@ -84,7 +84,7 @@ module _ (s : List ℕ) (e : certificateVerdict s ≡ Fits) where
   abbrev fields : TbsFields s (membersIn s tbs)
   fields = named s e .fields
 
-  -- those behind the version, and those behind the key
+  -- the members behind the key, which may be missing, and all behind the version
   abbrev optional : List Head
   optional = fields .issuer-id ++ (fields .subject-id ++ fields .extended)
 

@@ -54,7 +54,7 @@ record Bits (s : List ℕ) (h : Head) : Type 0 where
   sound : Fills s (bitsStart h) (h .end)
   tag : headOf s (bitsStart h) (h .end) .tag ≡ 0x30
 
--- there is an octet behind the one that counts unused bits, where an element is found
+-- where an element is found, the string is longer than the octet that counts unused bits
 from-behind : (s : List ℕ) (h : Head) → wholeOf s h .tag ≡ 0x30 → bitsFrom h ≡ bitsStart h
 from-behind s h t = go (ltb (bitsStart h) (h .end)) refl
   where
@@ -124,14 +124,14 @@ module _ (s : List ℕ) (e : certificateVerdict s ≡ Fits) where
   key-at p =
       let k = subjectKey s in
       let judged = judgesNumbers s k in
-      let size = not (modulusOk (modulus s k)) in
-      let odd = not (exponentOk (exponent s k)) in
+      let wrongSize = not (modulusOk (modulus s k)) in
+      let wrongExponent = not (exponentOk (exponent s k)) in
       let divided = not (freeOf (primesBelow 752) (modulus s k)) in
-      let other = not (isServer p) in
+      let responder = not (isServer p) in
       join-at
       (join-at (noted-at 201 _ _ (λ t. algorithm-element))
       (join-at (noted-at 202 _ _ (λ t. algorithm-element)) (noted-at 203 _ _ (λ t. algorithm-element))))
       (join-at (noted-at 204 _ _ (λ t. bits-element))
-      (join-at (noted-at 205 (judged && size) _ (λ t. modulus-element (and-l judged size t)))
-      (join-at (noted-at 206 (judged && odd) _ (λ t. exponent-element (and-l judged odd t)))
-      (noted-at 207 ((other && judged) && divided) _ (λ t. modulus-element (and-r other judged (and-l (other && judged) divided t)))))))
+      (join-at (noted-at 205 (judged && wrongSize) _ (λ t. modulus-element (and-l judged wrongSize t)))
+      (join-at (noted-at 206 (judged && wrongExponent) _ (λ t. exponent-element (and-l judged wrongExponent t)))
+      (noted-at 207 ((responder && judged) && divided) _ (λ t. modulus-element (and-r responder judged (and-l (responder && judged) divided t)))))))

@@ -25,7 +25,6 @@ use Rattle.asn.specs.Module.{valueOf}
 use Rattle.asn.specs.declared.fitting.Verdict.the-variants.{Fits}
 use Rattle.certificate.specs.Fields.{certificateOf}
 use Rattle.der.specs.Members.{membersIn}
-use Rattle.certificate.specs.Extensions.{extensionOf}
 use Rattle.certificate.specs.Slots.{valueAt}
 use Rattle.certificate.specs.declared.slots.Value.{Value}
 use Rattle.certificate.proofs.Laws.Inside.{certificate-inside}
@@ -34,7 +33,7 @@ use Rattle.certificate.proofs.Laws.Slots.{value-start, good-none}
 use Rattle.certificate.proofs.Laws.Values.{value-named}
 use Rattle.lint.specs.Findings.{startsIn, valuesIn}
 use Rattle.places.proofs.Laws.Members.{same-element}
-use Rattle.places.proofs.Laws.Extensions.{slot-extension, value-element}
+use Rattle.places.proofs.Laws.Extensions.{octetString, slot-extension, value-element}
 
 -- ---- one element that fills a stretch
 
@@ -109,7 +108,7 @@ module _ (s : List ℕ) (e : certificateVerdict s ≡ Fits) (slot : ℕ) (l : sl
     good-value =
         let x = slot-extension s e slot l started in
         let v = value-named s (startsIn s) (list .end) slot (certificate-inside s .extensions .ends) l n in
-        let holder : value .holder ≡ extensionOf s (x .element) .value = v .is ∙ ap (λ (h : Head). extensionOf s h .value) (x .is) in
+        let holder : value .holder ≡ octetString s (x .element) = v .is ∙ ap (octetString s) (x .is) in
         let f = filled s (value .holder .body) (value .holder .end) (value .element) (v .alone) (v .elements) in
         record {
           holder = same-element holder (value-element s e (x .element) (x .listed));
