@@ -2,6 +2,7 @@
 //! 350), and values on the edge that are.
 
 use crate::certificate::{Attribute, Name, RelativeName};
+use crate::correct::{HOST, ISSUER_KEY_IDENTIFIER};
 use crate::element::{tag, Element, LengthForm, Part};
 use crate::general_names::*;
 use crate::object_identifiers as oid;
@@ -203,57 +204,72 @@ fn bad_set() -> Element {
 
 /// Faults of a single GeneralName, for the three extensions that hold such names.
 fn bad_general_names() -> Vec<(&'static str, Element)> {
-    let name_of = |sets: Vec<Element>| constructed(4, vec![sequence(sets)]);
-    let attribute = || Attribute::new(oid::common_name(), Element::printable("a")).element();
-    let other = Attribute::new(oid::common_name(), Element::printable("b")).element();
-    let kind = || Element::object_identifier(&oid::private_extension());
-    vec![
+    let identifier = Element::object_identifier(&oid::private_extension());
+    let mut names = vec![
         ("a name of form 9", context(9, &[])),
         ("a universal string", Element::primitive(tag::IA5_STRING, b"www.agency.example")),
         ("an explicit IA5String", constructed(2, vec![Element::primitive(tag::IA5_STRING, b"a.b")])),
         ("a constructed URI", constructed(6, vec![])),
         ("a constructed address", constructed(7, vec![])),
         ("a constructed mail address", constructed(1, vec![])),
-        ("a constructed registered identifier", constructed(8, vec![kind()])),
+        ("a constructed registered identifier", constructed(8, vec![identifier])),
         ("an empty registered identifier", context(8, &[])),
         ("a registered identifier with an arc starting 80", context(8, &[0x2A, 0x80, 1])),
         ("an unfinished registered identifier", context(8, &[0x2A, 0x86])),
-        ("a primitive directory name", context(4, &[0x30, 0])),
-        ("an empty directory name choice", constructed(4, vec![])),
-        ("a directory name without its SEQUENCE", constructed(4, vec![Element::set_of(vec![attribute()])])),
-        ("two directory names in one", constructed(4, vec![sequence(vec![]), sequence(vec![])])),
-        ("a directory name with an empty set", name_of(vec![Element::set_of(vec![])])),
-        (
-            "a directory name with an unordered set",
-            name_of(vec![Element::constructed(tag::SET, vec![other, attribute()])]),
-        ),
-        ("an attribute without value", name_of(vec![Element::set_of(vec![sequence(vec![kind()])])])),
-        (
-            "an attribute of three members",
-            name_of(vec![Element::set_of(vec![sequence(vec![kind(), Element::null(), Element::null()])])]),
-        ),
-        ("a primitive other name", context(0, &[])),
-        ("an empty other name", constructed(0, vec![])),
-        ("an other name without value", constructed(0, vec![kind()])),
-        ("an other name with an untagged value", constructed(0, vec![kind(), Element::utf8("x")])),
-        ("an other name with an empty value tag", constructed(0, vec![kind(), constructed(0, vec![])])),
-        (
-            "an other name with two values",
-            constructed(0, vec![kind(), constructed(0, vec![Element::null(), Element::null()])]),
-        ),
-        ("an other name with a primitive value tag", constructed(0, vec![kind(), context(0, &[5, 0])])),
         ("a primitive x400Address", context(3, &[])),
         ("a primitive ediPartyName", context(5, &[])),
         ("an x400Address that is not sound", constructed(3, vec![bad_boolean()])),
         ("an x400Address with a SET out of order", constructed(3, vec![bad_set()])),
         ("an ediPartyName that is not sound", constructed(5, vec![Element::integer(&[])])),
+    ];
+    names.extend(bad_directory_names());
+    names.extend(bad_other_names());
+    names
+}
+
+fn bad_directory_names() -> Vec<(&'static str, Element)> {
+    let attribute = |text: &str| Attribute::new(oid::common_name(), Element::printable(text)).element();
+    let name_of = |set: Element| constructed(4, vec![sequence(vec![set])]);
+    // An attribute's type, and so many values behind it.
+    let attribute_of = |values: usize| {
+        let mut members = vec![Element::object_identifier(&oid::private_extension())];
+        members.resize(1 + values, Element::null());
+        sequence(members)
+    };
+    let unordered = Element::constructed(tag::SET, vec![attribute("b"), attribute("a")]);
+    vec![
+        ("a primitive directory name", context(4, &[0x30, 0])),
+        ("an empty directory name choice", constructed(4, vec![])),
+        (
+            "a directory name without its SEQUENCE",
+            constructed(4, vec![Element::set_of(vec![attribute("a")])]),
+        ),
+        ("two directory names in one", constructed(4, vec![sequence(vec![]), sequence(vec![])])),
+        ("a directory name with an empty set", name_of(Element::set_of(vec![]))),
+        ("a directory name with an unordered set", name_of(unordered)),
+        ("an attribute without value", name_of(Element::set_of(vec![attribute_of(0)]))),
+        ("an attribute of three members", name_of(Element::set_of(vec![attribute_of(2)]))),
+    ]
+}
+
+fn bad_other_names() -> Vec<(&'static str, Element)> {
+    let kind = || Element::object_identifier(&oid::private_extension());
+    let valued = |value: Element| constructed(0, vec![kind(), value]);
+    vec![
+        ("a primitive other name", context(0, &[])),
+        ("an empty other name", constructed(0, vec![])),
+        ("an other name without value", constructed(0, vec![kind()])),
+        ("an other name with an untagged value", valued(Element::utf8("x"))),
+        ("an other name with an empty value tag", valued(constructed(0, vec![]))),
+        ("an other name with two values", valued(constructed(0, vec![Element::null(), Element::null()]))),
+        ("an other name with a primitive value tag", valued(context(0, &[5, 0]))),
     ]
 }
 
 fn bad_alternative_names() -> Vec<Value> {
     let mut values = vec![value("no name", sequence(vec![]))];
     for (what, name) in bad_general_names() {
-        values.push(value(what, sequence(vec![dns(crate::correct::HOST), name])));
+        values.push(value(what, sequence(vec![dns(HOST), name])));
     }
     values
 }
@@ -299,24 +315,31 @@ fn bad_points() -> Vec<Value> {
             with(vec![relative(vec![Element::set_of(vec![attribute("a")])])]),
         ),
         value("a name choice of form 2", with(vec![constructed(0, vec![constructed(2, vec![uri("a")])])])),
-        value("reasons constructed", with(vec![constructed(1, vec![])])),
-        value("reasons without octets", with(vec![context(1, &[])])),
-        value("reasons with trailing zero bits", with(vec![reasons(0, &[0x40])])),
-        value("reasons with eight unused bits", with(vec![reasons(8, &[0x40])])),
-        value("reasons with set unused bits", with(vec![reasons(7, &[0xC0])])),
-        value("reasons with unused bits of nothing", with(vec![reasons(3, &[])])),
-        value("an empty list issuer", with(vec![list_issuer(vec![])])),
-        value("a primitive list issuer", with(vec![context(2, &[])])),
-        value("fields out of order", with(vec![reasons(6, &[0x40]), full_name(vec![uri("http://a")])])),
-        value("reasons twice", with(vec![reasons(6, &[0x40]), reasons(6, &[0x40])])),
-        value("an unknown field", with(vec![context(3, &[])])),
         value("names instead of a point", sequence(vec![constructed(0, vec![uri("http://a")])])),
     ];
     for (what, name) in bad_general_names() {
         values.push(value(what, with(vec![full_name(vec![name])])));
     }
-    values.push(value("a bad list issuer", with(vec![list_issuer(vec![context(9, &[])])])));
+    values.extend(bad_fields_of_points().map(|(what, fields)| value(what, with(fields))));
     values
+}
+
+/// Fields of a point behind its name, or in a wrong order.
+fn bad_fields_of_points() -> [(&'static str, Vec<Element>); 12] {
+    [
+        ("reasons constructed", vec![constructed(1, vec![])]),
+        ("reasons without octets", vec![context(1, &[])]),
+        ("reasons with trailing zero bits", vec![reasons(0, &[0x40])]),
+        ("reasons with eight unused bits", vec![reasons(8, &[0x40])]),
+        ("reasons with set unused bits", vec![reasons(7, &[0xC0])]),
+        ("reasons with unused bits of nothing", vec![reasons(3, &[])]),
+        ("reasons twice", vec![reasons(6, &[0x40]), reasons(6, &[0x40])]),
+        ("fields out of order", vec![reasons(6, &[0x40]), full_name(vec![uri("http://a")])]),
+        ("an empty list issuer", vec![list_issuer(vec![])]),
+        ("a primitive list issuer", vec![context(2, &[])]),
+        ("a bad list issuer", vec![list_issuer(vec![context(9, &[])])]),
+        ("an unknown field", vec![context(3, &[])]),
+    ]
 }
 
 fn bad_nochecks() -> Vec<Value> {
@@ -387,81 +410,90 @@ pub fn nested_other_name(depth: usize) -> Element {
     for _ in 4..depth {
         inner = sequence(vec![inner]);
     }
-    general_names(vec![dns(crate::correct::HOST), other_name(oid::private_extension(), inner)])
+    general_names(vec![dns(HOST), other_name(oid::private_extension(), inner)])
 }
 
-/// Values that are good by the ASN.1, with the rules that they break at the OCTET STRING all the
-/// same.
-pub fn edge_values(slot: u8) -> Vec<(Value, Vec<u16>)> {
-    let key = || context(0, &crate::correct::ISSUER_KEY_IDENTIFIER);
-    let good = |what: &str, element: Element| (value(what, element), vec![]);
-    let broken = |what: &str, element: Element, rule: u16| (value(what, element), vec![rule]);
-    let two = RelativeName::of(vec![
-        Attribute::new(oid::common_name(), Element::printable("b")),
-        Attribute::new(oid::common_name(), Element::printable("a")),
-    ]);
+/// A value that is good by the ASN.1, and the rules that it breaks at the OCTET STRING all the same.
+type EdgeValue = (Value, Vec<u16>);
+
+fn good(what: &str, element: Element) -> EdgeValue {
+    (value(what, element), vec![])
+}
+
+fn breaking(rule: u16, what: &str, element: Element) -> EdgeValue {
+    (value(what, element), vec![rule])
+}
+
+/// Values at the edge of what is good.
+pub fn edge_values(slot: u8) -> Vec<EdgeValue> {
     match slot {
-        1 => vec![
-            broken("no field at all", sequence(vec![]), 401),
-            good("issuers without serial", sequence(vec![key(), constructed(1, vec![uri("")])])),
-            good("serial without issuers", sequence(vec![key(), context(2, &[0x80])])),
-            good(
-                "issuer in a name without sets",
-                sequence(vec![key(), constructed(1, vec![directory(&Name::default())])]),
-            ),
-            broken("serial alone", sequence(vec![context(2, &[0])]), 401),
-            broken("key identifier empty", sequence(vec![context(0, &[])]), 401),
-        ],
-        2 => vec![
-            broken("cA TRUE", sequence(vec![Element::boolean(true)]), 402),
-            broken("a path length without cA", sequence(vec![Element::integer(&[0])]), 402),
-            broken(
-                "cA with a path length of 128",
-                sequence(vec![Element::boolean(true), Element::integer(&[0, 0x80])]),
-                402,
-            ),
-            broken("a path length of forty octets", sequence(vec![Element::integer(&[0x55; 40])]), 402),
-        ],
+        1 => edge_authority_keys(),
+        2 => edge_basic_constraints(),
         3 => vec![
-            broken("no octet", Element::octet_string(&[]), 403),
-            broken("nineteen octets", Element::octet_string(&[1; 19]), 403),
-            broken("twenty-one octets", Element::octet_string(&[1; 21]), 403),
+            breaking(403, "no octet", Element::octet_string(&[])),
+            breaking(403, "nineteen octets", Element::octet_string(&[1; 19])),
+            breaking(403, "twenty-one octets", Element::octet_string(&[1; 21])),
         ],
         4 => vec![
-            broken("no bit", Element::bit_string(0, &[]), 404),
-            broken("a bit past the named ones", named_bits(&[0, 9]), 405),
-            broken("a bit far past the named ones", named_bits(&[0, 77]), 405),
-            broken("decipherOnly, in the second octet", named_bits(&[0, 8]), 405),
+            breaking(404, "no bit", Element::bit_string(0, &[])),
+            breaking(405, "a bit past the named ones", named_bits(&[0, 9])),
+            breaking(405, "a bit far past the named ones", named_bits(&[0, 77])),
+            breaking(405, "decipherOnly, in the second octet", named_bits(&[0, 8])),
         ],
-        7 => vec![good(
-            "a host name twice",
-            general_names(vec![dns(crate::correct::HOST), dns(crate::correct::HOST)]),
-        )],
-        8 => vec![good(
-            "any form of name with an unknown method",
-            sequence(vec![
-                access(oid::access_by_ocsp(), uri("")),
-                access(oid::access_to_issuers(), uri("http://a")),
-                access(oid::private_extension(), directory(&Name { sets: vec![two], marks: vec![] })),
-                access(oid::private_extension(), x400(vec![])),
-                access(oid::private_extension(), edi_party(vec![])),
-                access(oid::private_extension(), internet_address(&[1, 2, 3])),
-                access(oid::private_extension(), mail("\u{e9}")),
-            ]),
-        )],
-        9 => vec![
-            broken("an empty point alone", sequence(vec![point(vec![])]), 418),
-            good(
-                "a relative name of two in order",
-                sequence(vec![
-                    point(vec![full_name(vec![uri("http://a")])]),
-                    point(vec![relative_name(vec![
-                        Attribute::new(oid::common_name(), Element::printable("b")).element(),
-                        Attribute::new(oid::common_name(), Element::printable("a")).element(),
-                    ])]),
-                ]),
-            ),
-        ],
+        7 => vec![good("a host name twice", general_names(vec![dns(HOST), dns(HOST)]))],
+        8 => vec![good("any form of name with an unknown method", accesses_of_every_form())],
+        9 => edge_points(),
         _ => vec![],
     }
+}
+
+fn edge_authority_keys() -> Vec<EdgeValue> {
+    let key = || context(0, &ISSUER_KEY_IDENTIFIER);
+    let nameless = constructed(1, vec![directory(&Name::default())]);
+    vec![
+        breaking(401, "no field at all", sequence(vec![])),
+        good("issuers without serial", sequence(vec![key(), constructed(1, vec![uri("")])])),
+        good("serial without issuers", sequence(vec![key(), context(2, &[0x80])])),
+        good("issuer in a name without sets", sequence(vec![key(), nameless])),
+        breaking(401, "serial alone", sequence(vec![context(2, &[0])])),
+        breaking(401, "key identifier empty", sequence(vec![context(0, &[])])),
+    ]
+}
+
+fn edge_basic_constraints() -> Vec<EdgeValue> {
+    let long = vec![Element::boolean(true), Element::integer(&[0, 0x80])];
+    vec![
+        breaking(402, "cA TRUE", sequence(vec![Element::boolean(true)])),
+        breaking(402, "a path length without cA", sequence(vec![Element::integer(&[0])])),
+        breaking(402, "cA with a path length of 128", sequence(long)),
+        breaking(402, "a path length of forty octets", sequence(vec![Element::integer(&[0x55; 40])])),
+    ]
+}
+
+/// Two attributes that a set puts in order.
+fn two_attributes() -> Vec<Attribute> {
+    ["b", "a"].map(|text| Attribute::new(oid::common_name(), Element::printable(text))).to_vec()
+}
+
+fn accesses_of_every_form() -> Element {
+    let name = Name { sets: vec![RelativeName::of(two_attributes())], marks: vec![] };
+    let unknown = |location: Element| access(oid::private_extension(), location);
+    sequence(vec![
+        access(oid::access_by_ocsp(), uri("")),
+        access(oid::access_to_issuers(), uri("http://a")),
+        unknown(directory(&name)),
+        unknown(x400(vec![])),
+        unknown(edi_party(vec![])),
+        unknown(internet_address(&[1, 2, 3])),
+        unknown(mail("\u{e9}")),
+    ])
+}
+
+fn edge_points() -> Vec<EdgeValue> {
+    let attributes = two_attributes().iter().map(Attribute::element).collect();
+    let points = vec![point(vec![full_name(vec![uri("http://a")])]), point(vec![relative_name(attributes)])];
+    vec![
+        breaking(418, "an empty point alone", sequence(vec![point(vec![])])),
+        good("a relative name of two in order", sequence(points)),
+    ]
 }

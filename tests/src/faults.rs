@@ -72,33 +72,38 @@ struct Catalogue {
 }
 
 impl Catalogue {
+    /// The catalogue, for faults that all touch the same.
+    fn touching<'a>(&'a mut self, touches: &'a [Aspect]) -> Addition<'a> {
+        self.of_slot(0, touches)
+    }
+
+    /// The same for faults of one row of the table of extensions.
+    fn of_slot<'a>(&'a mut self, slot: u8, touches: &'a [Aspect]) -> Addition<'a> {
+        Addition { catalogue: self, slot, touches }
+    }
+}
+
+struct Addition<'a> {
+    catalogue: &'a mut Catalogue,
+    slot: u8,
+    touches: &'a [Aspect],
+}
+
+impl Addition<'_> {
     fn add(
         &mut self,
         name: &str,
         rules: &[u16],
         profiles: &'static [u8],
-        touches: &[Aspect],
         apply: fn(&mut Pair, &mut Random, u8),
     ) {
-        self.add_for_slot(0, name, rules, profiles, touches, apply);
-    }
-
-    fn add_for_slot(
-        &mut self,
-        slot: u8,
-        name: &str,
-        rules: &[u16],
-        profiles: &'static [u8],
-        touches: &[Aspect],
-        apply: fn(&mut Pair, &mut Random, u8),
-    ) {
-        self.faults.push(Fault {
+        self.catalogue.faults.push(Fault {
             name: name.to_string(),
             rules: rules.to_vec(),
             profiles,
-            touches: touches.to_vec(),
+            touches: self.touches.to_vec(),
             apply,
-            slot,
+            slot: self.slot,
         });
     }
 }

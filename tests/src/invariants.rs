@@ -1,10 +1,11 @@
 //! What must hold of every answer, whatever the input: for mutated and outside certificates, of
 //! which nothing more is known.
 
-use reference::{lint, report_octets, Answer, Entry, Refusal};
+use reference::{lint, Answer, Entry, Refusal};
 
 use crate::holding::AMPLE_ROOM;
 use crate::profile::existing_rules;
+use crate::records::refused;
 
 /// The answer of the reference, after it was held to everything that is true of all answers.
 pub fn answer_held_to_invariants(certificate: &[u8], issuer: &[u8], profile: u8) -> Result<Answer, String> {
@@ -50,11 +51,7 @@ pub fn hold_report(entries: &[Entry], certificate: &[u8], profile: u8) -> Result
             return Err(format!("{entry:?} is no element of the certificate"));
         }
     }
-    if report_octets(entries).len() == 6 * entries.len() {
-        Ok(())
-    } else {
-        Err("an entry has six octets".to_string())
-    }
+    Ok(())
 }
 
 /// The same answer in just enough room, and refusal 7 in one octet less.
@@ -63,8 +60,7 @@ fn hold_rooms(entries: &[Entry], certificate: &[u8], issuer: &[u8], profile: u8)
     if lint(certificate, issuer, profile, needed) != Answer::Report(entries.to_vec()) {
         return Err("another answer in just enough room".to_string());
     }
-    let refused = Answer::Refused(Refusal { number: 7, side: 0, place: 0 });
-    if needed > 0 && lint(certificate, issuer, profile, needed - 1) != refused {
+    if needed > 0 && lint(certificate, issuer, profile, needed - 1) != refused(7, 0, 0) {
         return Err("no refusal 7 in an octet less than enough".to_string());
     }
     Ok(())

@@ -7,12 +7,12 @@
 //! |---|---|
 //! | `element` | the encoder: a tree of elements whose marks have places once it is encoded |
 //! | `object_identifiers`, `general_names`, `keys`, `calendar` | what certificates are made of |
-//! | `certificate`, `profile`, `correct` | a certificate as its fields; correct ones of each profile |
+//! | `certificate`, `profile`, `correct`, `variations` | a certificate as its fields; correct ones of each profile |
 //! | `faults`, `bad_values` | faults that break known rules at known places |
 //! | `malformed` | certificates that are refused with 4, 5 or 6 at a known place |
 //! | `times` | times at every edge, and whether they are times |
 //! | `mutation`, `mutants`, `trees` | chance changes and chance trees |
-//! | `records`, `deck` | records of every kind; decks with every kind of damage, and the listing that is due |
+//! | `records`, `deck`, `damage` | records of every kind, decks with every kind of damage, and the listing that is due |
 //! | `sample` | the sample deck that ships with the repository |
 //! | `outside` | certificates that nobody here made |
 //! | `verdicts` | octets with their verdicts of soundness, by hand |
@@ -20,8 +20,9 @@
 //! | `holding`, `invariants`, `shrink` | comparing, and showing what differs |
 //! | `program` | running a program of this repository as a process |
 //! | `answers` | a program that answers frames with lines, held to the lines that are expected |
-//! | `calls` | calls of the proved linter, held to the whole answer that is due |
-//! | `writer`, `reader` | the deck's writers and readers, the reference and the proved ones, held alike |
+//! | `outcome`, `queue` | what the proved linter, writer and reader write, and requests that wait for them |
+//! | `calls` | calls of the linter, the proved one held to the whole answer that is due |
+//! | `linters`, `writers`, `readers` | the reference and the proved one, both held to what is due |
 //! | `random`, `amount`, `hex` | small helpers |
 //!
 //! `cargo test -- --nocapture` shows how many cases of each kind were compared and the table of
@@ -35,6 +36,7 @@ pub mod calendar;
 pub mod calls;
 pub mod certificate;
 pub mod correct;
+pub mod damage;
 pub mod deck;
 pub mod element;
 pub mod faults;
@@ -44,19 +46,23 @@ pub mod hex;
 pub mod holding;
 pub mod invariants;
 pub mod keys;
+pub mod linters;
 pub mod malformed;
 pub mod mutants;
 pub mod mutation;
 pub mod object_identifiers;
+pub mod outcome;
 pub mod outside;
 pub mod profile;
 pub mod program;
+pub mod queue;
 pub mod random;
-pub mod reader;
+pub mod readers;
 pub mod records;
 pub mod sample;
 pub mod shrink;
 pub mod times;
 pub mod trees;
+pub mod variations;
 pub mod verdicts;
-pub mod writer;
+pub mod writers;

@@ -2,10 +2,10 @@
 //! said.
 
 use crate::certificate::{node, Attribute, Certificate};
-use crate::correct::any_moment;
 use crate::element::{tag, Element, LengthForm, Mark, Part};
 use crate::object_identifiers as oid;
 use crate::random::Random;
+use crate::variations::any_moment;
 
 pub struct Malformed {
     pub what: String,
@@ -25,12 +25,16 @@ pub fn with_every_field(mut certificate: Certificate) -> Certificate {
 pub fn malformed(certificate: &Certificate) -> Vec<Malformed> {
     let mut all = Collection { base: certificate.element(), items: Vec::new() };
     add_unsound_types(&mut all);
+    add_wrongly_constructed(&mut all);
     add_unsound_headers(&mut all);
     add_unsound_depths(&mut all);
     add_unordered(&mut all);
     add_wrong_elements(&mut all);
+    add_elements_of_a_like_type(&mut all);
     add_missing_elements(&mut all);
+    add_missing_stretches(&mut all);
     add_extra_elements(&mut all);
+    add_misplaced_elements(&mut all);
     add_wrong_values(&mut all);
     add_wrong_times(&mut all);
     all.items
@@ -91,6 +95,10 @@ fn add_unsound_types(all: &mut Collection) {
         let null = Element::primitive(tag::NULL, &[0]).refused(4);
         tree.find(node::INNER_ALGORITHM).contents[1] = Part::Element(null);
     });
+}
+
+/// Types that are constructed and must not be, and the reverse.
+fn add_wrongly_constructed(all: &mut Collection) {
     for (name, identifier) in [
         (node::CERTIFICATE, 0x10),
         (node::TBS, 0x10),
@@ -249,6 +257,9 @@ fn add_wrong_elements(all: &mut Collection) {
         all.add_at("a NULL instead", 6, name, |element| *element = Element::null());
         all.add_at("an application tag instead", 6, name, |element| *element = Element::primitive(0x41, &[]));
     }
+}
+
+fn add_elements_of_a_like_type(all: &mut Collection) {
     for name in [node::CERTIFICATE, node::TBS, node::ISSUER, node::VALIDITY, node::KEY, node::EXTENSION_LIST]
     {
         all.add_at("a universal 8 instead of a SEQUENCE", 6, name, |element| element.identifier = 0x28);
@@ -305,6 +316,9 @@ fn add_missing_elements(all: &mut Collection) {
             refuse(tree.find(place), 6);
         });
     }
+}
+
+fn add_missing_stretches(all: &mut Collection) {
     all.add("no validity", 6, |tree| {
         tree.find(node::TBS).remove(node::VALIDITY);
         refuse(tree.find(node::SUBJECT).find(node::RELATIVE_NAME), 6);
@@ -323,13 +337,19 @@ fn add_missing_elements(all: &mut Collection) {
         }
         refuse(tbs, 6);
     });
-    for name in
-        [node::CERTIFICATE, node::TBS, node::INNER_ALGORITHM, node::VALIDITY, node::KEY, node::EXTENSION_LIST]
-    {
-        all.add_at("empty", 6, name, |element| element.contents.clear());
-    }
-    for name in [node::EXTENSION, node::ATTRIBUTE, node::KEY_ALGORITHM, node::OUTER_ALGORITHM, node::VERSION]
-    {
+    for name in [
+        node::CERTIFICATE,
+        node::TBS,
+        node::INNER_ALGORITHM,
+        node::VALIDITY,
+        node::KEY,
+        node::EXTENSION_LIST,
+        node::EXTENSION,
+        node::ATTRIBUTE,
+        node::KEY_ALGORITHM,
+        node::OUTER_ALGORITHM,
+        node::VERSION,
+    ] {
         all.add_at("empty", 6, name, |element| element.contents.clear());
     }
 }
@@ -355,6 +375,9 @@ fn add_extra_elements(all: &mut Collection) {
             tree.find(name).push(Element::null().refused(6));
         });
     }
+}
+
+fn add_misplaced_elements(all: &mut Collection) {
     all.add("a NULL among the attributes of a set", 6, |tree| {
         tree.find(node::RELATIVE_NAME).insert(0, Element::null().refused(6));
     });

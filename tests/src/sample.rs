@@ -1,15 +1,15 @@
 //! The sample deck that ships with the repository: good records, findings of several kinds, refusals, and each kind of
 //! lost block. Its listing is known from what was put into it.
 
-use reference::{Answer, Loss, Refusal};
+use reference::Loss;
 
 use crate::correct::{plain, Case};
-use crate::deck::{listing_of, push_damaged, Damage, Deck, Record};
+use crate::damage::{change_octet, push_spoiled};
+use crate::deck::{listing_of, Deck, Record, CHECK};
 use crate::faults::catalogue;
+use crate::holding::AMPLE_ROOM;
 use crate::random::Random;
-
-/// More room than any report of the sample takes.
-const ROOM: usize = 65_536;
+use crate::records::refused;
 
 /// The sample's octets and its listing.
 pub fn sample() -> (Vec<u8>, String) {
@@ -27,14 +27,18 @@ pub fn sample() -> (Vec<u8>, String) {
         deck.push_record(&next(faulty(profile, names, &mut random)));
     }
     // A block of this record went bad: its other blocks are strays.
-    push_damaged(&mut deck, &next(plain(2).encode()), Damage::OctetChanged, &mut random);
+    let record = next(plain(2).encode());
+    let mut blocks = record.blocks();
+    let victim = random.below(blocks.len());
+    change_octet(&mut blocks[victim], CHECK, &mut random);
+    push_spoiled(&mut deck, &record, &blocks, &[victim]);
     for case in refused_cases() {
         deck.push_record(&next(case));
     }
     deck.push_record(&next(plain(1).encode()));
     deck.push_lost(&[0; 512], Loss::Unsound);
     deck.push_lost(&[0xFF; 100], Loss::Short);
-    let listing = listing_of(&deck.events(ROOM), deck.blocks());
+    let listing = listing_of(&deck.events(AMPLE_ROOM), deck.blocks());
     (deck.octets, listing)
 }
 
@@ -58,7 +62,6 @@ fn faulty(profile: u8, names: &[&str], random: &mut Random) -> Case {
 }
 
 fn refused_cases() -> [Case; 4] {
-    let refused = |number, side, place| Answer::Refused(Refusal { number, side, place });
     let empty = vec![0x30, 0];
     [
         // no certificate at all

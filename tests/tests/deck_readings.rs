@@ -7,16 +7,16 @@
 use comparison::deck::{block, blocks_of, check, fails_its_check, seal, BLOCK, CHECK};
 use comparison::element::Element;
 use comparison::hex;
-use comparison::reader::{Reader, Reading, MOST_OCTETS};
+use comparison::readers::{Reader, Readers, Reading, MOST_OCTETS};
 
 /// A room that no report here needs.
 const ROOM: usize = 13;
 
 /// Holds both readers to the lines that this deck must give.
 fn hold(what: &str, blocks: &[&[u8]], due: &[&str]) {
-    let mut reader = Reader::of(what);
-    reader.hold_lines(what, Reading { deck: blocks.concat(), room: ROOM }, due);
-    reader.settle();
+    let mut readers = Readers::of(what);
+    readers.hold_lines(what, Reading { deck: blocks.concat(), room: ROOM }, due);
+    readers.settle();
 }
 
 /// Profile, certificate and issuer as a record's octets.
@@ -359,15 +359,12 @@ fn decks_of_the_most_octets() {
 #[test]
 fn a_frame_that_brings_no_deck_is_told() {
     let reader = Reader::of("frames that bring no deck");
-    let hold = |frames: &[&[u8]], due: &[u8]| {
-        let written = reader.written_on(frames);
-        assert!(written.is_none() || written.as_deref() == Some(due), "{written:?}");
-    };
     let empty_deck = [0; 7];
     for length in [0, 1, 5, 7] {
-        hold(&[&empty_deck[..length], &empty_deck[..6]], b"no call\nrecords 0 blocks 0 lost 0\n");
+        let frames = [&empty_deck[..length], &empty_deck[..6]];
+        reader.hold_frames(&frames, "no call\nrecords 0 blocks 0 lost 0\n");
     }
-    hold(&[&[1, 0, 1, 0, 0, 0], &[0, 0, 0, 1, 0, 1]], b"no call\nno call\n");
+    reader.hold_frames(&[&[1, 0, 1, 0, 0, 0], &[0, 0, 0, 1, 0, 1]], "no call\nno call\n");
     // A deck that the end of the input cuts off.
-    hold(&[&empty_deck[..6], &[0, 0, 0, 0, 0, 1]], b"records 0 blocks 0 lost 0\n");
+    reader.hold_frames(&[&empty_deck[..6], &[0, 0, 0, 0, 0, 1]], "records 0 blocks 0 lost 0\n");
 }

@@ -3,14 +3,16 @@
 
 use comparison::amount::cases;
 use comparison::correct::Case;
+use comparison::damage::*;
 use comparison::deck::*;
 use comparison::element::{Element, LengthForm};
 use comparison::hex;
 use comparison::holding::{Comparison, AMPLE_ROOM};
+use comparison::queue::hold_met;
 use comparison::random::Random;
-use comparison::reader::{hold_met, some_room, Reader, MOST_OCTETS};
+use comparison::readers::{some_room, Readers, MOST_OCTETS};
 use comparison::records::{any_record, linted, of_two_blocks, refused, tiny};
-use comparison::writer::{Writer, Writing};
+use comparison::writers::{Writers, Writing};
 use reference::{block_check, listing, Loss};
 
 /// Every kind of step but a record that is refused with 4 or 5, which no record here is.
@@ -67,31 +69,32 @@ fn the_one_is_part_of_what_is_divided() {
 
 #[test]
 fn a_written_record_reads_back_as_it_was() {
-    let mut writer = Writer::of("records written");
-    let mut reader = Reader::of("records read back");
+    let mut writers = Writers::of("records written");
+    let mut readers = Readers::of("records read back");
     let mut random = Random::for_purpose("read back");
     for number in 1..=400 {
         let record = Record { number, case: linted(&mut random) };
         let blocks = record.blocks().concat();
-        writer.hold("the blocks", Writing::of(&record, blocks.len() + random.below(9)), Ok(blocks));
+        writers.hold("the blocks", Writing::of(&record, blocks.len() + random.below(9)), Ok(blocks));
         let mut deck = Deck::default();
         deck.push_record(&record);
-        reader.hold("the record", &deck, some_room(&deck, &mut random));
+        readers.hold("the record", &deck, some_room(&deck, &mut random));
     }
-    writer.finish();
-    reader.finish();
+    writers.finish();
+    readers.finish();
 }
 
 #[test]
 fn decks_with_every_kind_of_damage() {
-    let mut reader = Reader::of("decks with damage");
+    let mut readers = Readers::of("decks with damage");
     let mut listings = Comparison::of("listings of decks with damage");
     let mut random = Random::for_purpose("damaged decks");
+    let damages = damages();
     let mut met = std::collections::BTreeMap::<String, usize>::new();
     for _ in 0..cases(30_000) / CERTIFICATES_A_DECK {
         let mut deck = Deck::default();
         for number in 1..=random.between(1, 7) as u32 {
-            let damage = if random.once_in(2) { Damage::None } else { *random.choose(&DAMAGES) };
+            let damage = if random.once_in(2) { Damage::None } else { *random.choose(&damages) };
             *met.entry(format!("{damage:?}")).or_default() += 1;
             push_damaged(&mut deck, &any_record(number, &mut random), damage, &mut random);
         }
@@ -102,35 +105,35 @@ fn decks_with_every_kind_of_damage() {
             *met.entry("Torn".to_string()).or_default() += 1;
         }
         let room = some_room(&deck, &mut random);
-        reader.hold("a damaged deck", &deck, room);
+        readers.hold("a damaged deck", &deck, room);
         hold_listing(&mut listings, "a damaged deck", &deck);
     }
-    let steps = reader.finish();
+    let steps = readers.finish();
     listings.finish();
     hold_met(&steps, &EVERY_STEP);
     println!("damage: {met:?}");
-    assert_eq!(met.len(), DAMAGES.len() + 1, "every kind of damage was met");
+    assert_eq!(met.len(), damages.len() + 1, "every kind of damage was met");
 }
 
 #[test]
 fn one_block_damaged_in_every_way_leaves_the_others() {
-    let mut reader = Reader::of("decks of three records, one of them damaged");
+    let mut readers = Readers::of("decks of three records, one of them damaged");
     let mut random = Random::for_purpose("one damaged");
-    for damage in DAMAGES {
+    for damage in damages() {
         for _ in 0..20 {
             let mut deck = Deck::default();
             deck.push_record(&any_record(1, &mut random));
             push_damaged(&mut deck, &any_record(2, &mut random), damage, &mut random);
             deck.push_record(&any_record(3, &mut random));
-            reader.hold(&format!("{damage:?}"), &deck, some_room(&deck, &mut random));
+            readers.hold(&format!("{damage:?}"), &deck, some_room(&deck, &mut random));
         }
     }
-    reader.finish();
+    readers.finish();
 }
 
 #[test]
 fn blocks_exchanged_between_two_records() {
-    let mut reader = Reader::of("decks with blocks exchanged between two records");
+    let mut readers = Readers::of("decks with blocks exchanged between two records");
     let mut random = Random::for_purpose("exchanged blocks");
     for _ in 0..400 {
         let mut deck = Deck::default();
@@ -138,20 +141,20 @@ fn blocks_exchanged_between_two_records() {
         let (second, third) = (any_record(2, &mut random), any_record(3, &mut random));
         push_exchanged(&mut deck, &second, &third, &mut random);
         deck.push_record(&any_record(4, &mut random));
-        reader.hold("exchanged blocks", &deck, some_room(&deck, &mut random));
+        readers.hold("exchanged blocks", &deck, some_room(&deck, &mut random));
     }
-    reader.finish();
+    readers.finish();
 }
 
 #[test]
 fn spoiling_a_good_block_always_fails_its_check() {
-    let mut reader = Reader::of("spoiled blocks: one octet, two octets exchanged, all 00, all FF");
+    let mut readers = Readers::of("spoiled blocks: one octet, two octets exchanged, all 00, all FF");
     let mut random = Random::for_purpose("spoiled blocks");
     let good = Record { number: 1, case: tiny(&mut random) }.blocks().remove(0);
     let mut lost = |block: &[u8]| {
         let mut deck = Deck::default();
         deck.push_lost(block, Loss::Unsound);
-        reader.hold("a spoiled block", &deck, 0);
+        readers.hold("a spoiled block", &deck, 0);
     };
     for position in 0..BLOCK {
         for _ in 0..4 {
@@ -167,26 +170,26 @@ fn spoiling_a_good_block_always_fails_its_check() {
     }
     lost(&[0; BLOCK]);
     lost(&[0xFF; BLOCK]);
-    reader.finish();
+    readers.finish();
 }
 
 #[test]
 fn every_length_of_a_torn_deck() {
-    let mut reader = Reader::of("decks torn at every octet");
+    let mut readers = Readers::of("decks torn at every octet");
     let mut random = Random::for_purpose("torn decks");
     let [first, second] = [1, 2].map(|number| Record { number, case: of_two_blocks(&mut random) });
     for kept in 0..second.blocks().len() * BLOCK {
         let mut deck = Deck::default();
         deck.push_record(&first);
         push_torn(&mut deck, &second, kept);
-        reader.hold("a torn deck", &deck, 7);
+        readers.hold("a torn deck", &deck, 7);
     }
-    reader.finish();
+    readers.finish();
 }
 
 #[test]
 fn records_that_just_fill_their_blocks() {
-    let mut reader = Reader::of("records of every length around the end of a block");
+    let mut readers = Readers::of("records of every length around the end of a block");
     for blocks in [1, 2, 3, 32] {
         for length in blocks * 502 - 3..=blocks * 502 + 3 {
             let certificate = Element::octet_string(&vec![7; 200]).octets();
@@ -196,10 +199,10 @@ fn records_that_just_fill_their_blocks() {
             let mut deck = Deck::default();
             deck.push_record(&Record { number: 5, case: Case { profile: 1, certificate, issuer, expected } });
             assert_eq!(deck.blocks(), length.div_ceil(502));
-            reader.hold("a record at the edge", &deck, 7);
+            readers.hold("a record at the edge", &deck, 7);
         }
     }
-    reader.finish();
+    readers.finish();
 }
 
 #[test]

@@ -6,7 +6,7 @@ use std::collections::BTreeSet;
 
 use comparison::amount::{cases, say};
 use comparison::calendar::{Fields, Moment, DAY};
-use comparison::calls::{Call, Given, Linter, Outcome};
+use comparison::calls::{Call, Linter};
 use comparison::certificate::{Certificate, Extension};
 use comparison::correct::{correct, plain, set_extension, shortest, shortest_with_every_field, Case, Pair};
 use comparison::element::{tag, Element, Part};
@@ -21,6 +21,7 @@ use comparison::mutation::{every_change_of_an_element, every_change_of_an_octet,
 use comparison::object_identifiers as oid;
 use comparison::outside::{self, Outside};
 use comparison::profile::{existing_rules, ALL};
+use comparison::queue::{hold_met, Request};
 use comparison::random::Random;
 
 /// A call in a room around what its report needs: enough of it mostly, and now and then an octet
@@ -41,21 +42,11 @@ fn compare(linter: &mut Linter, what: &str, profiles: &[u8], sides: (&[u8], &[u8
     }
 }
 
-/// Prints what was answered, and asks that all of this was among it.
-fn hold_given(given: &Given, wanted: &[&str]) {
-    println!("answers: {:?}\nentries by rule: {:?}", given.answers, given.rules);
-    if given.calls() > 0 {
-        for kind in wanted {
-            assert!(given.answers.contains_key(*kind), "nothing was answered with {kind:?}");
-        }
-    }
-}
-
 // Faults
 
 #[test]
 fn every_fault_is_judged_alike_under_every_profile() {
-    let mut linter = Linter::find();
+    let mut linter = Linter::of("certificates with a single fault, under every profile");
     let mut random = Random::for_purpose("faults under every profile");
     let faults = catalogue();
     let rounds = cases(9_000).div_ceil(9 * faults.len());
@@ -69,43 +60,44 @@ fn every_fault_is_judged_alike_under_every_profile() {
             }
         }
     }
-    let given = linter.finish("certificates with a single fault, under every profile");
-    hold_given(&given, &["findings", "refused 7 side 0"]);
-    let every: BTreeSet<u16> = ALL.iter().flat_map(|profile| existing_rules(*profile)).collect();
-    assert!(given.calls() == 0 || given.rules.keys().copied().eq(every), "every rule was broken");
+    let met = linter.finish();
+    hold_met(&met, &["findings", "refused 7 side 0"]);
+    for rule in ALL.iter().flat_map(|profile| existing_rules(*profile)) {
+        hold_met(&met, &[&format!("rule {rule}")]);
+    }
 }
 
 #[test]
 fn mixed_faults_are_judged_alike_under_every_profile() {
-    let mut linter = Linter::find();
+    let mut linter = Linter::of("certificates with mixed faults, under every profile");
     let mut random = Random::for_purpose("mixed faults under every profile");
     let faults = catalogue();
     for _ in 0..cases(6_000) / 3 {
         let case = mix(*random.choose(ALL), &faults, &mut random).encode();
         compare(&mut linter, "mixed faults", ALL, (&case.certificate, &case.issuer), &mut random);
     }
-    let given = linter.finish("certificates with mixed faults, under every profile");
-    hold_given(&given, &["findings", "refused 7 side 0"]);
+    let met = linter.finish();
+    hold_met(&met, &["findings", "refused 7 side 0"]);
 }
 
 // Mutations
 
 #[test]
 fn mutated_certificates_are_answered_alike() {
-    let mut linter = Linter::find();
+    let mut linter = Linter::of("mutated certificates");
     let mut random = Random::for_purpose("rooms of mutants");
     for mutant in Mutants::new("mutants for two linters").take(cases(20_000)) {
         linter.compare("a mutant", call(mutant.profile, &mutant.certificate, &mutant.issuer, &mut random));
     }
-    let given = linter.finish("mutated certificates");
+    let met = linter.finish();
     let refused =
         ["refused 4 side 1", "refused 4 side 2", "refused 5 side 1", "refused 6 side 1", "refused 6 side 2"];
-    hold_given(&given, &[&["no finding", "findings", "refused 7 side 0"], &refused[..]].concat());
+    hold_met(&met, &[&["no finding", "findings", "refused 7 side 0"], &refused[..]].concat());
 }
 
 #[test]
 fn every_change_of_a_short_certificate_is_answered_alike() {
-    let mut linter = Linter::find();
+    let mut linter = Linter::of("every change of an octet or an element of a short certificate");
     let mut random = Random::for_purpose("every change of a short certificate");
     let good = plain(1).encode();
     let tree = shortest_with_every_field().element();
@@ -120,16 +112,16 @@ fn every_change_of_a_short_certificate_is_answered_alike() {
             compare(&mut linter, "a certificate changed", &[profile], (&changed, &octets), &mut random);
         }
     }
-    let given = linter.finish("every change of an octet or an element of a short certificate");
-    hold_given(
-        &given,
+    let met = linter.finish();
+    hold_met(
+        &met,
         &["findings", "refused 4 side 1", "refused 4 side 2", "refused 6 side 1", "refused 6 side 2"],
     );
 }
 
 #[test]
 fn changes_at_every_octet_of_plain_certificates_are_answered_alike() {
-    let mut linter = Linter::find();
+    let mut linter = Linter::of("plain certificates with one octet changed");
     let mut random = Random::for_purpose("changes at every octet");
     for profile in ALL {
         let good = plain(*profile).encode();
@@ -141,15 +133,15 @@ fn changes_at_every_octet_of_plain_certificates_are_answered_alike() {
             }
         }
     }
-    let given = linter.finish("plain certificates with one octet changed");
-    hold_given(&given, &["no finding", "findings", "refused 4 side 1", "refused 6 side 1"]);
+    let met = linter.finish();
+    hold_met(&met, &["no finding", "findings", "refused 4 side 1", "refused 6 side 1"]);
 }
 
 // Fields by chance
 
 #[test]
 fn chance_validities_are_judged_alike() {
-    let mut linter = Linter::find();
+    let mut linter = Linter::of("certificates with chance validities");
     let mut random = Random::for_purpose("chance validities");
     for _ in 0..cases(3_000) {
         let profile = *random.choose(ALL);
@@ -165,8 +157,8 @@ fn chance_validities_are_judged_alike() {
         let case = pair.encode();
         linter.compare("a validity", call(profile, &case.certificate, &case.issuer, &mut random));
     }
-    let given = linter.finish("certificates with chance validities");
-    hold_given(&given, &["no finding", "findings"]);
+    let met = linter.finish();
+    hold_met(&met, &["no finding", "findings"]);
 }
 
 fn chance_moment(random: &mut Random) -> Moment {
@@ -192,7 +184,7 @@ fn in_some_form(moment: Moment, random: &mut Random) -> Element {
 
 #[test]
 fn chance_keys_are_judged_alike() {
-    let mut linter = Linter::find();
+    let mut linter = Linter::of("certificates with chance keys");
     let mut random = Random::for_purpose("chance keys");
     for _ in 0..cases(4_000) {
         let profile = *random.choose(ALL);
@@ -203,9 +195,8 @@ fn chance_keys_are_judged_alike() {
         let case = pair.encode();
         linter.compare("a key", call(profile, &case.certificate, &case.issuer, &mut random));
     }
-    let given = linter.finish("certificates with chance keys");
-    hold_given(&given, &["no finding", "findings"]);
-    assert!(given.calls() == 0 || [205, 206, 207].iter().all(|rule| given.rules.contains_key(rule)));
+    let met = linter.finish();
+    hold_met(&met, &["no finding", "findings", "rule 205", "rule 206", "rule 207"]);
 }
 
 /// A good modulus, a multiple of a small prime or of any odd number, or any number of about the
@@ -247,7 +238,7 @@ fn chance_exponent(random: &mut Random) -> Vec<u8> {
 
 #[test]
 fn chance_names_are_judged_alike() {
-    let mut linter = Linter::find();
+    let mut linter = Linter::of("certificates with chance names");
     let mut random = Random::for_purpose("chance names");
     for _ in 0..cases(6_000) {
         let profile = *random.choose(ALL);
@@ -267,9 +258,8 @@ fn chance_names_are_judged_alike() {
         let case = pair.encode();
         linter.compare("names", call(profile, &case.certificate, &case.issuer, &mut random));
     }
-    let given = linter.finish("certificates with chance names");
-    hold_given(&given, &["no finding", "findings"]);
-    assert!(given.calls() == 0 || [120, 412, 413, 414].iter().all(|rule| given.rules.contains_key(rule)));
+    let met = linter.finish();
+    hold_met(&met, &["no finding", "findings", "rule 120", "rule 412", "rule 413", "rule 414"]);
 }
 
 /// A host name out of labels that are mostly good, or a URI.
@@ -298,7 +288,7 @@ fn chance_name(random: &mut Random) -> Element {
 
 #[test]
 fn outside_certificates_are_answered_alike() {
-    let mut linter = Linter::find();
+    let mut linter = Linter::of("outside certificates with themselves and others as issuers");
     let mut random = Random::for_purpose("outside pairs");
     let items = outside::certificates();
     let generated = plain(1).encode();
@@ -315,13 +305,13 @@ fn outside_certificates_are_answered_alike() {
             compare(&mut linter, &item.name, ALL, (&item.octets, other), &mut random);
         }
     }
-    let given = linter.finish("outside certificates with themselves and others as issuers");
-    hold_given(&given, &["findings", "refused 6 side 1", "refused 6 side 2"]);
+    let met = linter.finish();
+    hold_met(&met, &["findings", "refused 6 side 1", "refused 6 side 2"]);
 }
 
 #[test]
 fn other_outside_structures_are_refused_alike() {
-    let mut linter = Linter::find();
+    let mut linter = Linter::of("other outside structures on either side");
     let mut random = Random::for_purpose("outside structures");
     let good = plain(2).encode();
     let structures: Vec<Outside> =
@@ -335,8 +325,8 @@ fn other_outside_structures_are_refused_alike() {
             }
         }
     }
-    let given = linter.finish("other outside structures on either side");
-    hold_given(&given, &["refused 6 side 1", "refused 6 side 2"]);
+    let met = linter.finish();
+    hold_met(&met, &["refused 6 side 1", "refused 6 side 2"]);
 }
 
 // Refusals
@@ -361,7 +351,7 @@ fn sides(good: &Certificate) -> Vec<Vec<u8>> {
 
 #[test]
 fn refusals_come_in_their_order_for_all_sides_profiles_and_rooms() {
-    let mut linter = Linter::find();
+    let mut linter = Linter::of("sides, profiles and rooms in every combination");
     let pair = plain(1);
     let issuers = sides(&pair.issuer);
     for certificate in sides(&pair.certificate) {
@@ -377,20 +367,20 @@ fn refusals_come_in_their_order_for_all_sides_profiles_and_rooms() {
         let case = pair.encode();
         linter.compare("a profile", Call::new(profile, &case.certificate, &case.issuer, 100));
     }
-    let given = linter.finish("sides, profiles and rooms in every combination");
+    let met = linter.finish();
     let (first, second) = (
         ["refused 1 side 1", "refused 4 side 1", "refused 5 side 1", "refused 6 side 1"],
         ["refused 2 side 2", "refused 4 side 2", "refused 5 side 2", "refused 6 side 2"],
     );
-    hold_given(
-        &given,
+    hold_met(
+        &met,
         &[&first[..], &second, &["refused 3 side 0", "refused 7 side 0", "no finding", "findings"]].concat(),
     );
 }
 
 #[test]
 fn malformed_certificates_are_refused_alike_beside_every_side() {
-    let mut linter = Linter::find();
+    let mut linter = Linter::of("malformed certificates beside sides of every kind");
     let pair = plain(3);
     let unordered = hex::octets("31 06 02 01 02 02 01 01");
     let case = pair.encode();
@@ -403,28 +393,23 @@ fn malformed_certificates_are_refused_alike_beside_every_side() {
             }
         }
     }
-    let given = linter.finish("malformed certificates beside sides of every kind");
-    hold_given(&given, &["refused 4 side 2", "refused 5 side 2", "refused 6 side 2"]);
+    let met = linter.finish();
+    hold_met(&met, &["refused 4 side 2", "refused 5 side 2", "refused 6 side 2"]);
 }
 
 #[test]
 fn a_frame_that_makes_no_call_is_told() {
-    let linter = Linter::find();
-    if !linter.is_there() {
-        return;
-    }
+    let linter = Linter::of("frames that make no call");
     let whole = [1, 0, 0, 0, 0, 2, 0x30, 0, 0x30, 0];
-    let mut frames: Vec<Vec<u8>> = (0..6).map(|length| whole[..length].to_vec()).collect();
-    frames.push(whole[..7].to_vec());
-    // The issuer may be empty, and 65,536 octets of room are the most there are.
-    let one_more = [[1, 1, 0, 1].as_slice(), &whole[4..]].concat();
-    frames.extend([one_more, vec![1, 0xFF, 0xFF, 0xFF, 0xFF, 0xFF]]);
     // Of a head that is cut short the missing octets count as 0: a call needs six octets at least.
-    assert_eq!(linter.lines_on(&frames), vec!["no call"; frames.len()]);
-    assert_eq!(
-        linter.lines_on(&[whole.to_vec(), whole[..8].to_vec()]),
-        ["refused 6 side 1 at 0", "refused 2 side 2 at 0"]
-    );
+    let mut frames: Vec<&[u8]> = (0..6).map(|length| &whole[..length]).collect();
+    frames.push(&whole[..7]);
+    // 65,536 octets of room are the most there are.
+    let one_more = [[1, 1, 0, 1].as_slice(), &whole[4..]].concat();
+    frames.extend([one_more.as_slice(), &[1, 0xFF, 0xFF, 0xFF, 0xFF, 0xFF]]);
+    linter.hold_frames(&frames, &"no call\n".repeat(frames.len()));
+    // The issuer may be empty.
+    linter.hold_frames(&[&whole, &whole[..8]], "refused 6 side 1 at 0\nrefused 2 side 2 at 0\n");
 }
 
 // Rooms
@@ -444,7 +429,7 @@ fn hold_rooms(linter: &mut Linter, what: &str, case: &Case) {
 
 #[test]
 fn rooms_of_every_length_around_the_report_are_kept_alike() {
-    let mut linter = Linter::find();
+    let mut linter = Linter::of("rooms of every length around the report");
     let mut random = Random::for_purpose("rooms for two linters");
     let faults = catalogue();
     for turn in 0..cases(7_000) / ROOMS {
@@ -461,8 +446,8 @@ fn rooms_of_every_length_around_the_report_are_kept_alike() {
         let case = Pair { certificate: shortest(), ..plain(*profile) }.encode();
         hold_rooms(&mut linter, "the shortest certificate", &case);
     }
-    let given = linter.finish("rooms of every length around the report");
-    hold_given(&given, &["no finding", "findings", "refused 7 side 0"]);
+    let met = linter.finish();
+    hold_met(&met, &["no finding", "findings", "refused 7 side 0"]);
 }
 
 // Issuers
@@ -515,7 +500,7 @@ fn authority_key_ids() -> Vec<Element> {
 
 #[test]
 fn issuers_with_every_kind_of_key_identifier_are_taken_alike() {
-    let mut linter = Linter::find();
+    let mut linter = Linter::of("issuers with key identifiers of every kind");
     let mut random = Random::for_purpose("key identifiers of issuers");
     for profile in ALL {
         for (what, extensions) in key_identifiers() {
@@ -540,13 +525,13 @@ fn issuers_with_every_kind_of_key_identifier_are_taken_alike() {
         let case = pair.encode();
         linter.compare("no extension", call(*profile, &case.certificate, &case.issuer, &mut random));
     }
-    let given = linter.finish("issuers with key identifiers of every kind");
-    hold_given(&given, &["no finding", "findings"]);
+    let met = linter.finish();
+    hold_met(&met, &["no finding", "findings"]);
 }
 
 #[test]
 fn issuers_that_agree_in_name_and_key_identifier_give_the_same_answer() {
-    let linter = Linter::find();
+    let linter = Linter::of("issuers that agree");
     if !linter.is_there() {
         return;
     }
@@ -558,7 +543,7 @@ fn issuers_that_agree_in_name_and_key_identifier_give_the_same_answer() {
         let outcomes = linter.outcomes(&pairs.iter().flatten().collect::<Vec<_>>());
         for (calls, outcomes) in pairs.iter().zip(outcomes.chunks_exact(2)) {
             assert_eq!(outcomes[0], outcomes[1], "{:?}", calls[0]);
-            assert_eq!(outcomes[1], Outcome::of(&calls[1].reference(), calls[1].room));
+            assert_eq!(outcomes[1..], calls[1].reference_reply());
         }
     }
     say("pairs of issuers that agree in what counts: the same answer", 300 * rounds);

@@ -4,11 +4,12 @@ use std::fs::read;
 use std::path::Path;
 
 use comparison::amount::say;
+use comparison::damage::{damages, push_damaged};
 use comparison::deck::*;
 use comparison::holding::AMPLE_ROOM;
 use comparison::program::Program;
 use comparison::random::Random;
-use comparison::reader::MOST_OCTETS;
+use comparison::readers::MOST_OCTETS;
 use comparison::records::{any_record, largest, tiny};
 use comparison::sample::sample;
 use reference::{listing, Loss};
@@ -41,10 +42,11 @@ fn hold(program: Option<&Program>, what: &str, deck: &Deck) {
 
 /// Records of every kind and every kind of damage, as much as the program takes.
 fn mixed(random: &mut Random) -> Deck {
+    let damages = damages();
     let mut deck = Deck::default();
     for number in 1.. {
         let before = deck.clone();
-        push_damaged(&mut deck, &any_record(number, random), *random.choose(&DAMAGES), random);
+        push_damaged(&mut deck, &any_record(number, random), *random.choose(&damages), random);
         if deck.octets.len() > MOST_OCTETS {
             return before;
         }

@@ -4,11 +4,10 @@
 use std::collections::BTreeMap;
 
 use comparison::amount::{cases, say};
-use comparison::hex;
+use comparison::calls::{kind_of, shown_sides};
 use comparison::holding::rules_of;
 use comparison::invariants::answer_held_to_invariants;
 use comparison::mutants::Mutants;
-use reference::Answer;
 
 #[test]
 fn mutated_certificates_are_answered_within_the_rules() {
@@ -18,18 +17,12 @@ fn mutated_certificates_are_answered_within_the_rules() {
     for mutant in Mutants::new("mutants").take(count) {
         let answer = answer_held_to_invariants(&mutant.certificate, &mutant.issuer, mutant.profile);
         let answer = answer.unwrap_or_else(|why| {
-            let (certificate, issuer) = (hex::text(&mutant.certificate), hex::text(&mutant.issuer));
-            panic!("{why}\n  profile {}\n  certificate {certificate}\n  issuer {issuer}", mutant.profile)
+            panic!("{why}\n  {}", shown_sides(mutant.profile, &mutant.certificate, &mutant.issuer))
         });
         for rule in rules_of(&answer) {
             *rules.entry(rule).or_default() += 1;
         }
-        let kind = match answer {
-            Answer::Refused(refusal) => format!("refused {} side {}", refusal.number, refusal.side),
-            Answer::Report(entries) if entries.is_empty() => "no finding".to_string(),
-            Answer::Report(_) => "findings".to_string(),
-        };
-        *answers.entry(kind).or_default() += 1;
+        *answers.entry(kind_of(&answer)).or_default() += 1;
     }
     say("mutated certificates, held to what is true of all answers", count);
     println!("answers: {answers:?}");

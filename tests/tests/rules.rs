@@ -9,21 +9,22 @@ use comparison::faults::key::every_bad_rsa_bits;
 use comparison::faults::values::malformed_hosts;
 use comparison::faults::{catalogue, mix, why_never_alone};
 use comparison::general_names::{dns, named_bits};
-use comparison::holding::{rules_of, Comparison};
+use comparison::holding::rules_of;
+use comparison::linters::Linters;
 use comparison::profile::{existing_rules, is_server, standing, ALL, SLOTS};
 use comparison::random::Random;
 
 #[test]
 fn correct_certificates_have_no_finding() {
-    let mut comparison = Comparison::of("correct certificates");
+    let mut linters = Linters::of("correct certificates");
     let mut random = Random::for_purpose("correct certificates");
     for profile in ALL {
-        comparison.hold_case("the plain certificate", &plain(*profile).encode());
+        linters.hold("the plain certificate", &plain(*profile).encode());
         for _ in 0..cases(3000) / 3 {
-            comparison.hold_case("a correct certificate", &correct(*profile, &mut random).encode());
+            linters.hold("a correct certificate", &correct(*profile, &mut random).encode());
         }
     }
-    comparison.finish();
+    linters.finish();
 }
 
 /// How often a rule was reached in a profile, and how often it was the only finding.
@@ -35,7 +36,7 @@ struct Reached {
 
 #[test]
 fn every_rule_is_reached_in_every_profile_that_has_it() {
-    let mut comparison = Comparison::of("certificates with a single fault");
+    let mut linters = Linters::of("certificates with a single fault");
     let mut random = Random::for_purpose("single faults");
     let faults = catalogue();
     let mut reached: BTreeMap<(u16, u8), Reached> = BTreeMap::new();
@@ -53,7 +54,7 @@ fn every_rule_is_reached_in_every_profile_that_has_it() {
                     "the fault {:?} breaks what it says",
                     fault.name
                 );
-                comparison.hold_case(&fault.name, &case);
+                linters.hold(&fault.name, &case);
                 for rule in distinct(&rules) {
                     let entry = reached.entry((rule, *profile)).or_default();
                     entry.together += 1;
@@ -62,7 +63,7 @@ fn every_rule_is_reached_in_every_profile_that_has_it() {
             }
         }
     }
-    comparison.finish();
+    linters.finish();
     print_and_hold_the_table(&reached);
 }
 
@@ -119,7 +120,7 @@ fn print_and_hold_the_table(reached: &BTreeMap<(u16, u8), Reached>) {
 
 #[test]
 fn every_bad_value_breaks_its_rule() {
-    let mut comparison = Comparison::of("bad extension values, one by one");
+    let mut linters = Linters::of("bad extension values, one by one");
     for profile in ALL {
         for slot in SLOTS.filter(|slot| standing(*slot, *profile).is_judged()) {
             for value in bad_values(slot) {
@@ -127,16 +128,16 @@ fn every_bad_value_breaks_its_rule() {
                 set_extension(&mut pair, slot, plain_value(slot, *profile));
                 pair.extension(slot).value = value.parts;
                 pair.extension(slot).breaks_at_value(340 + u16::from(slot));
-                comparison.hold_case(&format!("extension {slot}: {}", value.what), &pair.encode());
+                linters.hold(&format!("extension {slot}: {}", value.what), &pair.encode());
             }
         }
     }
-    comparison.finish();
+    linters.finish();
 }
 
 #[test]
 fn values_on_the_edge_are_good() {
-    let mut comparison = Comparison::of("extension values on the edge");
+    let mut linters = Linters::of("extension values on the edge");
     for profile in ALL {
         for slot in SLOTS.filter(|slot| standing(*slot, *profile).is_judged()) {
             for (value, rules) in edge_values(slot) {
@@ -146,16 +147,16 @@ fn values_on_the_edge_are_good() {
                 for rule in rules.iter().filter(|rule| existing_rules(*profile).contains(rule)) {
                     pair.extension(slot).breaks_at_value(*rule);
                 }
-                comparison.hold_case(&format!("extension {slot}: {}", value.what), &pair.encode());
+                linters.hold(&format!("extension {slot}: {}", value.what), &pair.encode());
             }
         }
     }
-    comparison.finish();
+    linters.finish();
 }
 
 #[test]
 fn a_value_nests_sixteen_deep_and_no_deeper() {
-    let mut comparison = Comparison::of("values nested at the edge of depth");
+    let mut linters = Linters::of("values nested at the edge of depth");
     for profile in ALL {
         for depth in 4..=20 {
             let mut pair = plain(*profile);
@@ -168,29 +169,29 @@ fn a_value_nests_sixteen_deep_and_no_deeper() {
             if depth > 16 {
                 pair.extension(7).breaks_at_value(347);
             }
-            comparison.hold_case(&format!("nested {depth} deep"), &pair.encode());
+            linters.hold(&format!("nested {depth} deep"), &pair.encode());
         }
     }
-    comparison.finish();
+    linters.finish();
 }
 
 #[test]
 fn every_kind_of_bad_rsa_bits_breaks_204() {
-    let mut comparison = Comparison::of("bad RSA bits, one by one");
+    let mut linters = Linters::of("bad RSA bits, one by one");
     let mut random = Random::for_purpose("bad RSA bits");
     for profile in ALL {
         for bits in every_bad_rsa_bits(&mut random) {
             let mut pair = plain(*profile);
             pair.certificate.key_bits = bits;
-            comparison.hold_case("RSA bits", &pair.encode());
+            linters.hold("RSA bits", &pair.encode());
         }
     }
-    comparison.finish();
+    linters.finish();
 }
 
 #[test]
 fn every_malformed_host_breaks_414() {
-    let mut comparison = Comparison::of("malformed host names, one by one");
+    let mut linters = Linters::of("malformed host names, one by one");
     for profile in ALL {
         for host in malformed_hosts() {
             let mut pair = plain(*profile);
@@ -198,7 +199,7 @@ fn every_malformed_host_breaks_414() {
             let mut names = plain_value(7, *profile);
             names.push(name);
             set_extension(&mut pair, 7, names);
-            comparison.hold_case(&format!("host {:?}", String::from_utf8_lossy(&host)), &pair.encode());
+            linters.hold(&format!("host {:?}", String::from_utf8_lossy(&host)), &pair.encode());
         }
         // Every single octet as the middle of a label: letters, digits, hyphen and underscore pass.
         for octet in 0..=255u8 {
@@ -216,15 +217,15 @@ fn every_malformed_host_breaks_414() {
                 7,
                 comparison::element::Element::sequence(vec![dns("www.agency.example"), name]),
             );
-            comparison.hold_case(&format!("octet {octet:02X} in a label"), &pair.encode());
+            linters.hold(&format!("octet {octet:02X} in a label"), &pair.encode());
         }
     }
-    comparison.finish();
+    linters.finish();
 }
 
 #[test]
 fn every_usage_is_judged_by_key_and_profile() {
-    let mut comparison = Comparison::of("key usages: all sets of the nine named bits, and bits past them");
+    let mut linters = Linters::of("key usages: all sets of the nine named bits, and bits past them");
     let mut random = Random::for_purpose("key usages");
     for profile in ALL {
         for with_curve in [false, true] {
@@ -251,22 +252,22 @@ fn every_usage_is_judged_by_key_and_profile() {
                 if bits.iter().any(|bit| *bit != 0 && Some(*bit) != allowed) {
                     pair.extension(4).breaks_at_value(405);
                 }
-                comparison.hold_case(&format!("usage bits {bits:?}"), &pair.encode());
+                linters.hold(&format!("usage bits {bits:?}"), &pair.encode());
             }
         }
     }
-    comparison.finish();
+    linters.finish();
 }
 
 #[test]
 fn independent_faults_add_up() {
-    let mut comparison = Comparison::of("certificates with several independent faults");
+    let mut linters = Linters::of("certificates with several independent faults");
     let mut random = Random::for_purpose("several faults");
     let faults = catalogue();
     for _ in 0..cases(24_000) {
         let profile = *random.choose(ALL);
         let case = mix(profile, &faults, &mut random).encode();
-        comparison.hold_case("several faults", &case);
+        linters.hold("several faults", &case);
     }
-    comparison.finish();
+    linters.finish();
 }

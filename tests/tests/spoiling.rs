@@ -5,17 +5,20 @@
 use std::collections::BTreeMap;
 
 use comparison::amount::{cases, say};
-use comparison::calls::{fresh_room, Call, Linter, Outcome};
+use comparison::calls::{Call, Linter};
 use comparison::correct::{plain, Case};
+use comparison::damage::*;
 use comparison::deck::*;
 use comparison::faults::{catalogue, densest, mix, Fault};
 use comparison::hex;
 use comparison::holding::octets_needed;
+use comparison::outcome::{first_difference, fresh_room, Outcome};
 use comparison::profile::ALL;
+use comparison::queue::hold_met;
 use comparison::random::Random;
-use comparison::reader::{hold_met, some_room, Reader, Reading, MOST_OCTETS};
+use comparison::readers::{some_room, Readers, Reading, MOST_OCTETS};
 use comparison::records::{largest, linted, of_length, of_two_blocks, refused, tiny};
-use comparison::writer::{outcome_of, Writer, Writing};
+use comparison::writers::{Writer, Writing};
 
 /// So many decks are written in one run and read in another.
 const DECKS_A_RUN: usize = 500;
@@ -102,10 +105,9 @@ fn written(writer: &Writer, records: &[&Record], random: &mut Random) -> Vec<Vec
     let writings: Vec<Writing> =
         pairs.map(|(record, blocks)| Writing::of(record, BLOCK * blocks.len() + random.below(9))).collect();
     let outcomes = writer.outcomes(&writings.iter().collect::<Vec<_>>());
-    for ((writing, outcome), blocks) in writings.iter().zip(&outcomes).zip(&due) {
-        let due = outcome_of(&Ok(blocks.concat()), writing.room);
-        assert_eq!(outcome.difference_from(&due), None, "record {} is written", writing.number);
-    }
+    let due_outcome = |(writing, blocks): (&Writing, &Vec<Vec<u8>>)| writing.outcome_of(&Ok(blocks.concat()));
+    let due_outcomes: Vec<Outcome> = writings.iter().zip(&due).map(due_outcome).collect();
+    assert_eq!(first_difference(&due_outcomes, &outcomes), None, "records are written");
     let blocks_in = |(outcome, blocks): (&Outcome, &Vec<Vec<u8>>)| -> Vec<Vec<u8>> {
         outcome.room[..BLOCK * blocks.len()].chunks(BLOCK).map(<[u8]>::to_vec).collect()
     };
@@ -150,7 +152,7 @@ fn reading_gives_exactly_the_records_none_of_whose_blocks_was_spoiled() {
     let mut random = Random::for_purpose("demand 3");
     let pool = Pool::new(&mut random);
     let writer = Writer::of("records of spoiled decks");
-    let mut reader = Reader::of("spoiled decks");
+    let mut readers = Readers::of("spoiled decks");
     let mut spoiled = Spoiled::default();
     let decks = cases(10_000);
     while spoiled.decks < decks {
@@ -160,14 +162,14 @@ fn reading_gives_exactly_the_records_none_of_whose_blocks_was_spoiled() {
         for plan in &plans {
             let records: Vec<_> = plan.iter().zip(blocks.by_ref().take(plan.len())).collect();
             let deck = spoiled_deck(&records, &mut spoiled, &mut random);
-            reader.hold("a spoiled deck", &deck, some_room(&deck, &mut random));
+            readers.hold("a spoiled deck", &deck, some_room(&deck, &mut random));
         }
     }
     say("records written for spoiled decks", spoiled.records);
     println!("{} blocks, spoiled: {:?}", spoiled.blocks, spoiled.ways);
     assert_eq!(spoiled.ways.len(), SPOILINGS.len(), "blocks were spoiled in every way");
     let refusals = [4, 5, 6, 7].map(|number| format!("record refused {number}"));
-    let steps = reader.finish();
+    let steps = readers.finish();
     hold_met(&steps, &refusals.each_ref().map(String::as_str));
     hold_met(&steps, &["record without findings", "record with findings", "lost unsound", "lost stray"]);
 }
@@ -191,7 +193,7 @@ fn with_one_spoiled(records: &[Record], (victim, position): (usize, usize), way:
 #[test]
 fn every_block_of_a_deck_spoiled_in_every_way() {
     let mut random = Random::for_purpose("every block spoiled");
-    let mut reader = Reader::of("decks with each block spoiled in each way");
+    let mut readers = Readers::of("decks with each block spoiled in each way");
     let cases = [tiny(&mut random), linted(&mut random), of_two_blocks(&mut random), linted(&mut random)];
     let records = numbered(cases);
     let places = records
@@ -201,10 +203,10 @@ fn every_block_of_a_deck_spoiled_in_every_way() {
     for place in places {
         for way in SPOILINGS {
             let deck = with_one_spoiled(&records, place, way);
-            reader.hold(&format!("{way:?}"), &deck, some_room(&deck, &mut random));
+            readers.hold(&format!("{way:?}"), &deck, some_room(&deck, &mut random));
         }
     }
-    reader.finish();
+    readers.finish();
 }
 
 // "with the findings or the refusal that each would get alone"
@@ -260,8 +262,8 @@ fn linted_cases(faults: &[Fault], random: &mut Random) -> Vec<Case> {
 fn each_record_gets_the_answer_that_the_proved_linter_gives_it_alone_in_the_same_room() {
     let mut random = Random::for_purpose("alone in the same room");
     let faults = catalogue();
-    let linter = Linter::find();
-    let mut reader = Reader::of("records as the linter answers them alone");
+    let linter = Linter::of("records alone");
+    let mut readers = Readers::of("records as the linter answers them alone");
     if !linter.is_there() {
         return;
     }
@@ -277,10 +279,10 @@ fn each_record_gets_the_answer_that_the_proved_linter_gives_it_alone_in_the_same
         let rooms = rooms_for(&records);
         for (room, alone) in rooms.iter().zip(alone(&linter, &records, &rooms)) {
             let due = steps_as_alone(&records, &alone, *room);
-            reader.hold_steps("alone", Reading { deck: deck.clone(), room: *room }, due);
+            readers.hold_steps("alone", Reading { deck: deck.clone(), room: *room }, due);
         }
     }
-    let steps = reader.finish();
+    let steps = readers.finish();
     hold_met(
         &steps,
         &["record with findings", "record without findings", "record refused 7", "record refused 4"],

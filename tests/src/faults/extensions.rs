@@ -16,7 +16,8 @@ pub(super) fn add(faults: &mut Catalogue) {
         add_for_slot(faults, slot);
     }
     add_repeats_of_others(faults);
-    add_forbidden(faults);
+    add_others_at_responders(faults);
+    add_others_at_servers(faults);
 }
 
 /// The profiles in which an extension stands in a certain way.
@@ -35,52 +36,30 @@ fn add_for_slot(faults: &mut Catalogue, slot: u8) {
     let judged = profiles_where(slot, Standing::is_judged);
     let both = [Extension(slot), Critical(slot)];
     let name = |what: &str| format!("extension {slot} {what}");
-    faults.add_for_slot(slot, &name("missing"), &[300 + number], mandatory, &both, |pair, _, slot| {
+    faults.of_slot(slot, &both).add(&name("missing"), &[300 + number], mandatory, |pair, _, slot| {
         pair.certificate.remove_extension(&identifier_of(slot));
         pair.certificate.list_marks.push(Mark::Breaks(300 + u16::from(slot)));
     });
-    faults.add_for_slot(
-        slot,
-        &name("wrongly critical"),
-        &[320 + number],
-        judged,
-        &[Critical(slot)],
-        |pair, _, slot| {
-            ensure(pair, slot);
-            let critical = !standing(slot, pair.profile).is_critical();
-            let extension = pair.extension(slot);
-            extension.critical = critical;
-            extension.breaks_at_extension(320 + u16::from(slot));
-        },
-    );
-    faults.add_for_slot(
-        slot,
-        &name("of a bad value"),
-        &[340 + number],
-        judged,
-        &[Extension(slot)],
-        |pair, random, slot| {
-            ensure(pair, slot);
-            let mut values = bad_values(slot);
-            let chosen = values.swap_remove(random.below(values.len()));
-            pair.extension(slot).value = chosen.parts;
-            pair.extension(slot).breaks_at_value(340 + u16::from(slot));
-        },
-    );
-    faults.add_for_slot(slot, &name("repeated"), &[361], judged, &both, |pair, random, slot| {
+    let mut of_criticality = faults.of_slot(slot, &both[1..]);
+    of_criticality.add(&name("wrongly critical"), &[320 + number], judged, |pair, _, slot| {
         ensure(pair, slot);
-        let mut later = pair.extension(slot).clone();
-        spoil_repeat(&mut later, random);
-        pair.certificate.extensions.push(later.breaking(361));
+        let critical = !standing(slot, pair.profile).is_critical();
+        let extension = pair.extension(slot);
+        extension.critical = critical;
+        extension.breaks_at_extension(320 + u16::from(slot));
     });
-    faults.add_for_slot(slot, &name("four times"), &[361], judged, &both, |pair, random, slot| {
+    let mut of_value = faults.of_slot(slot, &both[..1]);
+    of_value.add(&name("of a bad value"), &[340 + number], judged, |pair, random, slot| {
         ensure(pair, slot);
-        for _ in 0..3 {
-            let mut later = pair.extension(slot).clone();
-            spoil_repeat(&mut later, random);
-            pair.certificate.extensions.push(later.breaking(361));
-        }
+        let mut values = bad_values(slot);
+        let chosen = values.swap_remove(random.below(values.len()));
+        pair.extension(slot).value = chosen.parts;
+        pair.extension(slot).breaks_at_value(340 + u16::from(slot));
     });
+    let mut of_both = faults.of_slot(slot, &both);
+    of_both.add(&name("repeated"), &[361], judged, |pair, random, slot| push_repeats(pair, slot, 1, random));
+    of_both
+        .add(&name("four times"), &[361], judged, |pair, random, slot| push_repeats(pair, slot, 3, random));
 }
 
 /// Gives the certificate a plain extension of the table if it has none.
@@ -88,6 +67,15 @@ fn ensure(pair: &mut Pair, slot: u8) {
     if !pair.certificate.has_extension(&identifier_of(slot)) {
         let value = plain_value(slot, pair.profile);
         set_extension(pair, slot, value);
+    }
+}
+
+fn push_repeats(pair: &mut Pair, slot: u8, count: usize, random: &mut Random) {
+    ensure(pair, slot);
+    for _ in 0..count {
+        let mut later = pair.extension(slot).clone();
+        spoil_repeat(&mut later, random);
+        pair.certificate.extensions.push(later.breaking(361));
     }
 }
 
@@ -109,119 +97,71 @@ fn other_extension(identifier: Vec<u8>, critical: bool) -> CertificateExtension 
 }
 
 fn add_repeats_of_others(faults: &mut Catalogue) {
-    faults.add(
-        "an extension outside the table repeated",
-        &[361],
-        SERVER,
-        &[OtherExtensions],
-        |pair, random, _| {
-            let identifier = random.choose(&[oid::private_extension, oid::name_constraints])();
-            pair.certificate.extensions.push(other_extension(identifier.clone(), false));
-            let critical = random.once_in(2);
-            pair.certificate.extensions.push(other_extension(identifier, critical).breaking(361));
-        },
-    );
-    faults.add("the private key usage period twice", &[361], RESPONDER, &[OtherExtensions], |pair, _, _| {
+    let mut faults = faults.touching(&[OtherExtensions]);
+    faults.add("an extension outside the table repeated", &[361], SERVER, |pair, random, _| {
+        let identifier = random.choose(&[oid::private_extension, oid::name_constraints])();
+        pair.certificate.extensions.push(other_extension(identifier.clone(), false));
+        let critical = random.once_in(2);
+        pair.certificate.extensions.push(other_extension(identifier, critical).breaking(361));
+    });
+    faults.add("the private key usage period twice", &[361], RESPONDER, |pair, _, _| {
         pair.certificate.remove_extension(&oid::private_key_usage_period());
         pair.certificate.extensions.push(other_extension(oid::private_key_usage_period(), false));
         pair.certificate
             .extensions
             .push(other_extension(oid::private_key_usage_period(), true).breaking(361));
     });
-    faults.add("a forbidden extension twice", &[361, 362], RESPONDER, &[OtherExtensions], |pair, _, _| {
+    faults.add("a forbidden extension twice", &[361, 362], RESPONDER, |pair, _, _| {
         pair.certificate.extensions.push(other_extension(oid::private_extension(), true).breaking(362));
         pair.certificate.extensions.push(other_extension(oid::private_extension(), true).breaking(361));
     });
-    faults.add(
-        "a critical strange extension twice",
-        &[361, 363],
-        SERVER,
-        &[OtherExtensions],
-        |pair, _, _| {
-            pair.certificate.extensions.push(other_extension(oid::private_extension(), true).breaking(363));
-            pair.certificate.extensions.push(other_extension(oid::private_extension(), true).breaking(361));
-        },
-    );
+    faults.add("a critical strange extension twice", &[361, 363], SERVER, |pair, _, _| {
+        pair.certificate.extensions.push(other_extension(oid::private_extension(), true).breaking(363));
+        pair.certificate.extensions.push(other_extension(oid::private_extension(), true).breaking(361));
+    });
 }
 
-fn add_forbidden(faults: &mut Catalogue) {
-    faults.add(
-        "basic constraints at a responder",
-        &[362],
-        RESPONDER,
-        &[OtherExtensions],
-        |pair, random, _| {
-            let mut extension = other_extension(oid::basic_constraints(), random.once_in(2));
-            // Of an extension marked "no" neither 322 nor 342 is judged.
-            if random.once_in(2) {
-                extension.value = vec![Part::Octets(vec![0x30, 0x05])];
-            }
-            insert_anywhere(pair, extension.breaking(362), random);
-        },
-    );
-    faults.add(
-        "an extension that is not in the table",
-        &[362],
-        RESPONDER,
-        &[OtherExtensions],
-        |pair, random, _| {
-            let critical = random.once_in(2);
-            insert_anywhere(pair, other_extension(oid::private_extension(), critical).breaking(362), random);
-        },
-    );
-    faults.add(
-        "three extensions that are not in the table",
-        &[362],
-        RESPONDER,
-        &[OtherExtensions],
-        |pair, random, _| {
-            for identifier in
-                [oid::name_constraints(), oid::issuer_alternative_name(), oid::transparency_list()]
-            {
-                insert_anywhere(pair, other_extension(identifier, false).breaking(362), random);
-            }
-        },
-    );
-    faults.add(
-        "a critical extension outside the table",
-        &[363],
-        SERVER,
-        &[OtherExtensions],
-        |pair, random, _| {
-            insert_anywhere(pair, other_extension(oid::private_extension(), true).breaking(363), random);
-        },
-    );
-    faults.add("a critical nocheck at a server", &[363], SERVER, &[OtherExtensions], |pair, random, _| {
+fn add_others_at_responders(faults: &mut Catalogue) {
+    let mut faults = faults.touching(&[OtherExtensions]);
+    faults.add("basic constraints at a responder", &[362], RESPONDER, |pair, random, _| {
+        let mut extension = other_extension(oid::basic_constraints(), random.once_in(2));
+        // Of an extension marked "no" neither 322 nor 342 is judged.
+        if random.once_in(2) {
+            extension.value = vec![Part::Octets(vec![0x30, 0x05])];
+        }
+        insert_anywhere(pair, extension.breaking(362), random);
+    });
+    faults.add("an extension that is not in the table", &[362], RESPONDER, |pair, random, _| {
+        let critical = random.once_in(2);
+        insert_anywhere(pair, other_extension(oid::private_extension(), critical).breaking(362), random);
+    });
+    faults.add("three extensions that are not in the table", &[362], RESPONDER, |pair, random, _| {
+        for identifier in [oid::name_constraints(), oid::issuer_alternative_name(), oid::transparency_list()]
+        {
+            insert_anywhere(pair, other_extension(identifier, false).breaking(362), random);
+        }
+    });
+}
+
+fn add_others_at_servers(faults: &mut Catalogue) {
+    let mut faults = faults.touching(&[OtherExtensions]);
+    faults.add("a critical extension outside the table", &[363], SERVER, |pair, random, _| {
+        insert_anywhere(pair, other_extension(oid::private_extension(), true).breaking(363), random);
+    });
+    faults.add("a critical nocheck at a server", &[363], SERVER, |pair, random, _| {
         pair.certificate.remove_extension(&oid::ocsp_nocheck());
         insert_anywhere(pair, other_extension(oid::ocsp_nocheck(), true).breaking(363), random);
     });
-    faults.add(
-        "a critical key usage period at a server",
-        &[363],
-        SERVER,
-        &[OtherExtensions],
-        |pair, random, _| {
-            pair.certificate.remove_extension(&oid::private_key_usage_period());
-            insert_anywhere(
-                pair,
-                other_extension(oid::private_key_usage_period(), true).breaking(363),
-                random,
-            );
-        },
-    );
-    faults.add(
-        "three critical extensions outside the table",
-        &[363],
-        SERVER,
-        &[OtherExtensions],
-        |pair, random, _| {
-            for identifier in
-                [oid::name_constraints(), oid::issuer_alternative_name(), oid::private_extension()]
-            {
-                insert_anywhere(pair, other_extension(identifier, true).breaking(363), random);
-            }
-        },
-    );
+    faults.add("a critical key usage period at a server", &[363], SERVER, |pair, random, _| {
+        pair.certificate.remove_extension(&oid::private_key_usage_period());
+        insert_anywhere(pair, other_extension(oid::private_key_usage_period(), true).breaking(363), random);
+    });
+    faults.add("three critical extensions outside the table", &[363], SERVER, |pair, random, _| {
+        for identifier in [oid::name_constraints(), oid::issuer_alternative_name(), oid::private_extension()]
+        {
+            insert_anywhere(pair, other_extension(identifier, true).breaking(363), random);
+        }
+    });
 }
 
 fn insert_anywhere(pair: &mut Pair, extension: CertificateExtension, random: &mut Random) {

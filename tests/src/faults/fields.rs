@@ -4,19 +4,22 @@ use super::Aspect::*;
 use super::Catalogue;
 use crate::calendar::{Moment, DAY};
 use crate::certificate::{algorithm, version, Attribute, Name, RelativeName};
-use crate::correct::{any_moment, longest_validity, positive_contents, Pair};
+use crate::correct::Pair;
 use crate::element::{tag, Element, Mark};
 use crate::general_names::dns;
 use crate::object_identifiers as oid;
 use crate::profile::*;
 use crate::random::Random;
+use crate::variations::{any_moment, longest_validity, positive_contents};
 
 pub(super) fn add(faults: &mut Catalogue) {
-    add_version_and_serial(faults);
+    add_version(faults);
+    add_serial(faults);
     add_algorithms(faults);
     add_issuer_name(faults);
     add_times(faults);
     add_subject_attributes(faults);
+    add_count_of_common_names(faults);
     add_common_name(faults);
     add_country(faults);
     add_organization(faults);
@@ -24,36 +27,41 @@ pub(super) fn add(faults: &mut Catalogue) {
     add_subject_sets(faults);
 }
 
-fn add_version_and_serial(faults: &mut Catalogue) {
-    faults.add("no version", &[101], ALL, &[Version], |pair, _, _| {
+fn add_version(faults: &mut Catalogue) {
+    let mut faults = faults.touching(&[Version]);
+    faults.add("no version", &[101], ALL, |pair, _, _| {
         pair.certificate.version = None;
         pair.certificate.tbs_marks.push(Mark::Breaks(101));
     });
-    faults.add("version v2", &[101], ALL, &[Version], |pair, _, _| {
+    faults.add("version v2", &[101], ALL, |pair, _, _| {
         pair.certificate.version = Some(version(1).breaking(101));
     });
-    faults.add("serial of zero", &[102], SERVER, &[Serial], |pair, _, _| {
+}
+
+fn add_serial(faults: &mut Catalogue) {
+    let mut faults = faults.touching(&[Serial]);
+    faults.add("serial of zero", &[102], SERVER, |pair, _, _| {
         pair.certificate.serial = Element::integer(&[0]).breaking(102);
     });
-    faults.add("serial of zero, too short as well", &[102, 104], RESPONDER, &[Serial], |pair, _, _| {
+    faults.add("serial of zero, too short as well", &[102, 104], RESPONDER, |pair, _, _| {
         pair.certificate.serial = Element::integer(&[0]).breaking(102).breaking(104);
     });
-    faults.add("serial of 80 hex", &[102], SERVER, &[Serial], |pair, _, _| {
+    faults.add("serial of 80 hex", &[102], SERVER, |pair, _, _| {
         pair.certificate.serial = Element::integer(&[0x80]).breaking(102);
     });
-    faults.add("negative serial", &[102], ALL, &[Serial], |pair, random, _| {
+    faults.add("negative serial", &[102], ALL, |pair, random, _| {
         let length = random.between(8, 20);
         pair.certificate.serial = Element::integer(&negative_contents(length, random)).breaking(102);
     });
-    faults.add("serial of 21 octets or more", &[103], ALL, &[Serial], |pair, random, _| {
+    faults.add("serial of 21 octets or more", &[103], ALL, |pair, random, _| {
         let length = if random.once_in(2) { 21 } else { random.between(22, 200) };
         pair.certificate.serial = Element::integer(&positive_contents(length, random)).breaking(103);
     });
-    faults.add("negative serial of 21 octets", &[102, 103], ALL, &[Serial], |pair, random, _| {
+    faults.add("negative serial of 21 octets", &[102, 103], ALL, |pair, random, _| {
         let contents = negative_contents(21, random);
         pair.certificate.serial = Element::integer(&contents).breaking(102).breaking(103);
     });
-    faults.add("serial of 7 octets or fewer", &[104], RESPONDER, &[Serial], |pair, random, _| {
+    faults.add("serial of 7 octets or fewer", &[104], RESPONDER, |pair, random, _| {
         let length = if random.once_in(2) { 7 } else { random.between(1, 6) };
         pair.certificate.serial = Element::integer(&positive_contents(length, random)).breaking(104);
     });
@@ -69,19 +77,20 @@ fn negative_contents(length: usize, random: &mut Random) -> Vec<u8> {
 }
 
 fn add_algorithms(faults: &mut Catalogue) {
-    faults.add("inner algorithm wrong", &[105, 107], ALL, &[Algorithms], |pair, random, _| {
+    let mut faults = faults.touching(&[Algorithms]);
+    faults.add("inner algorithm wrong", &[105, 107], ALL, |pair, random, _| {
         pair.certificate.inner_algorithm = wrong_algorithm(random).breaking(105);
         pair.certificate.outer_algorithm.marks.push(Mark::Breaks(107));
     });
-    faults.add("outer algorithm wrong", &[106, 107], ALL, &[Algorithms], |pair, random, _| {
+    faults.add("outer algorithm wrong", &[106, 107], ALL, |pair, random, _| {
         pair.certificate.outer_algorithm = wrong_algorithm(random).breaking(106).breaking(107);
     });
-    faults.add("both algorithms wrong and equal", &[105, 106], ALL, &[Algorithms], |pair, random, _| {
+    faults.add("both algorithms wrong and equal", &[105, 106], ALL, |pair, random, _| {
         let wrong = wrong_algorithm(random);
         pair.certificate.inner_algorithm = wrong.clone().breaking(105);
         pair.certificate.outer_algorithm = wrong.breaking(106);
     });
-    faults.add("both algorithms wrong and unequal", &[105, 106, 107], ALL, &[Algorithms], |pair, _, _| {
+    faults.add("both algorithms wrong and unequal", &[105, 106, 107], ALL, |pair, _, _| {
         let inner = algorithm(oid::sha256_with_rsa(), None);
         let outer = algorithm(oid::sha1_with_rsa(), Some(Element::null()));
         pair.certificate.inner_algorithm = inner.breaking(105);
@@ -100,25 +109,26 @@ fn wrong_algorithm(random: &mut Random) -> Element {
 }
 
 fn add_issuer_name(faults: &mut Catalogue) {
-    faults.add("issuer name in another string type", &[108], ALL, &[IssuerName], |pair, _, _| {
+    let mut faults = faults.touching(&[IssuerName]);
+    faults.add("issuer name in another string type", &[108], ALL, |pair, _, _| {
         let same = |kind| Name::of(vec![Attribute::new(oid::common_name(), Element::primitive(kind, b"CA"))]);
         pair.issuer.subject = same(tag::PRINTABLE_STRING);
         pair.certificate.issuer = same(tag::UTF8_STRING);
         pair.certificate.issuer.breaks(108);
     });
-    faults.add("issuer name shorter by a set", &[108], ALL, &[IssuerName], |pair, _, _| {
+    faults.add("issuer name shorter by a set", &[108], ALL, |pair, _, _| {
         pair.issuer.subject = pair.certificate.issuer.clone();
         let more = Attribute::new(oid::locality(), Element::printable("Washington"));
         pair.issuer.subject.push(more);
         pair.certificate.issuer.breaks(108);
     });
-    faults.add("issuer name empty", &[108], ALL, &[IssuerName], |pair, _, _| {
+    faults.add("issuer name empty", &[108], ALL, |pair, _, _| {
         let named = Attribute::new(oid::common_name(), Element::printable("CA"));
         pair.issuer.subject = Name::of(vec![named]);
         pair.certificate.issuer = Name::default();
         pair.certificate.issuer.breaks(108);
     });
-    faults.add("issuer name in another case", &[108], ALL, &[IssuerName], |pair, _, _| {
+    faults.add("issuer name in another case", &[108], ALL, |pair, _, _| {
         let name = |text| Name::of(vec![Attribute::new(oid::common_name(), Element::printable(text))]);
         pair.issuer.subject = name("US Federal TLS CA 2");
         pair.certificate.issuer = name("US Federal TLS ca 2");
@@ -127,39 +137,40 @@ fn add_issuer_name(faults: &mut Catalogue) {
 }
 
 fn add_times(faults: &mut Catalogue) {
-    faults.add("notBefore a GeneralizedTime before 2050", &[109], ALL, &[Times], |pair, random, _| {
+    let mut faults = faults.touching(&[Times]);
+    faults.add("notBefore a GeneralizedTime before 2050", &[109], ALL, |pair, random, _| {
         let not_before =
             if random.once_in(2) { Moment::at(2049, 12, 31).later(DAY - 1) } else { early(random) };
         pair.certificate.not_before = not_before.generalized().breaking(109);
         pair.certificate.not_after = not_before.later(DAY).due_form();
     });
-    faults.add("both times GeneralizedTime before 2050", &[109], ALL, &[Times], |pair, _, _| {
+    faults.add("both times GeneralizedTime before 2050", &[109], ALL, |pair, _, _| {
         let not_before = Moment::at(2024, 2, 29);
         pair.certificate.not_before = not_before.generalized().breaking(109);
         pair.certificate.not_after = not_before.later(7 * DAY).generalized().breaking(109);
     });
-    faults.add("notAfter a GeneralizedTime before 2050", &[109], ALL, &[Times], |pair, random, _| {
+    faults.add("notAfter a GeneralizedTime before 2050", &[109], ALL, |pair, random, _| {
         let not_before = early(random);
         pair.certificate.not_before = not_before.utc();
         pair.certificate.not_after = not_before.later(DAY).generalized().breaking(109);
     });
-    faults.add("times of the first years", &[109], ALL, &[Times], |pair, _, _| {
+    faults.add("times of the first years", &[109], ALL, |pair, _, _| {
         let not_before = Moment::at(0, 2, 29);
         pair.certificate.not_before = not_before.generalized().breaking(109);
         pair.certificate.not_after = not_before.later(DAY).generalized().breaking(109);
     });
-    faults.add("notAfter before notBefore", &[110], ALL, &[Times], |pair, random, _| {
+    faults.add("notAfter before notBefore", &[110], ALL, |pair, random, _| {
         let not_after = any_moment(random);
         let seconds = if random.once_in(2) { 1 } else { random.between(1, 500 * DAY as usize) as i64 };
         pair.certificate.not_before = not_after.later(seconds).due_form();
         pair.certificate.not_after = not_after.due_form();
         pair.certificate.validity_marks.push(Mark::Breaks(110));
     });
-    faults.add("valid a second too long or more", &[111], ALL, &[Times], |pair, random, _| {
+    faults.add("valid a second too long or more", &[111], ALL, |pair, random, _| {
         let over = if random.once_in(2) { 1 } else { random.between(1, 4000 * DAY as usize) as i64 };
         too_long(pair, any_moment(random), over);
     });
-    faults.add("too long from a UTCTime to a GeneralizedTime", &[111], ALL, &[Times], |pair, _, _| {
+    faults.add("too long from a UTCTime to a GeneralizedTime", &[111], ALL, |pair, _, _| {
         too_long(pair, Moment::at(2049, 12, 31), 1);
     });
 }
@@ -177,21 +188,22 @@ fn too_long(pair: &mut Pair, not_before: Moment, over: i64) {
 }
 
 fn add_subject_attributes(faults: &mut Catalogue) {
-    faults.add("a subject attribute too many", &[112], ALL, &[OtherAttributes], |pair, random, _| {
+    let mut faults = faults.touching(&[OtherAttributes]);
+    faults.add("a subject attribute too many", &[112], ALL, |pair, random, _| {
         add_strange_attributes(pair, 1, random);
     });
-    faults.add("three subject attributes too many", &[112], ALL, &[OtherAttributes], |pair, random, _| {
+    faults.add("three subject attributes too many", &[112], ALL, |pair, random, _| {
         add_strange_attributes(pair, 3, random);
     });
-    faults.add("a good organization where none belongs", &[112], DOMAIN, &[OtherAttributes], |pair, _, _| {
+    faults.add("a good organization where none belongs", &[112], DOMAIN, |pair, _, _| {
         let organization = Attribute::new(oid::organization(), Element::printable("U.S. Government"));
         pair.certificate.subject.push(organization.breaking(112));
     });
-    faults.add("an organizational unit at a server", &[112], SERVER, &[OtherAttributes], |pair, _, _| {
+    faults.add("an organizational unit at a server", &[112], SERVER, |pair, _, _| {
         let unit = Attribute::new(oid::organizational_unit(), Element::printable("Bureau"));
         pair.certificate.subject.push(unit.breaking(112));
     });
-    faults.add("a state where none belongs", &[112], &[1, 3], &[OtherAttributes], |pair, _, _| {
+    faults.add("a state where none belongs", &[112], &[1, 3], |pair, _, _| {
         let state = Attribute::new(oid::state(), Element::printable("District of Columbia"));
         pair.certificate.subject.push(state.breaking(112));
     });
@@ -207,48 +219,39 @@ fn add_strange_attributes(pair: &mut Pair, count: usize, random: &mut Random) {
     }
 }
 
-fn add_common_name(faults: &mut Catalogue) {
-    faults.add("no CN", &[113], ALL, &[CommonName], |pair, _, _| {
+fn add_count_of_common_names(faults: &mut Catalogue) {
+    let mut faults = faults.touching(&[CommonName]);
+    faults.add("no CN", &[113], ALL, |pair, _, _| {
         pair.certificate.subject.remove(&oid::common_name());
         pair.certificate.subject.breaks(113);
     });
-    faults.add("a second CN", &[113], ALL, &[CommonName], |pair, _, _| {
+    faults.add("a second CN", &[113], ALL, |pair, _, _| {
         let further = Attribute::new(oid::common_name(), Element::utf8("unknown")).breaking(113);
         pair.certificate.subject.push(further);
     });
-    faults.add("three further CNs", &[113], ALL, &[CommonName], |pair, _, _| {
+    faults.add("three further CNs", &[113], ALL, |pair, _, _| {
         for text in ["one", "two", "two"] {
             let further = Attribute::new(oid::common_name(), Element::utf8(text)).breaking(113);
             pair.certificate.subject.push(further);
         }
     });
-    faults.add(
-        "CN no host name of the certificate",
-        &[120],
-        SERVER,
-        &[CommonName, Extension(7)],
-        |pair, _, _| {
-            set_common_name(pair, b"elsewhere.agency.example");
-        },
-    );
-    faults.add(
-        "CN a beginning of the host name",
-        &[120],
-        SERVER,
-        &[CommonName, Extension(7)],
-        |pair, _, _| {
-            pair.extension(7).set_value(Element::sequence(vec![dns("www.agency.example")]));
-            set_common_name(pair, b"www.agency.exampl");
-        },
-    );
-    faults.add("CN longer than the host name", &[120], SERVER, &[CommonName, Extension(7)], |pair, _, _| {
+}
+
+fn add_common_name(faults: &mut Catalogue) {
+    let mut faults = faults.touching(&[CommonName, Extension(7)]);
+    faults.add("CN no host name of the certificate", &[120], SERVER, |pair, _, _| {
+        set_common_name(pair, b"elsewhere.agency.example");
+    });
+    faults.add("CN a beginning of the host name", &[120], SERVER, |pair, _, _| {
+        pair.extension(7).set_value(Element::sequence(vec![dns("www.agency.example")]));
+        set_common_name(pair, b"www.agency.exampl");
+    });
+    faults.add("CN longer than the host name", &[120], SERVER, |pair, _, _| {
         pair.extension(7).set_value(Element::sequence(vec![dns("a.b"), dns("www.agency.example")]));
         set_common_name(pair, b"www.agency.example.");
     });
-    faults.add("CN empty", &[120], SERVER, &[CommonName, Extension(7)], |pair, _, _| {
-        set_common_name(pair, b"")
-    });
-    faults.add("CN unlike by more than case", &[120], SERVER, &[CommonName, Extension(7)], |pair, _, _| {
+    faults.add("CN empty", &[120], SERVER, |pair, _, _| set_common_name(pair, b""));
+    faults.add("CN unlike by more than case", &[120], SERVER, |pair, _, _| {
         // A hyphen and a carriage return differ by the very bit that parts the two cases of a
         // letter.
         pair.extension(7).set_value(Element::sequence(vec![dns("a-b.agency.example")]));
@@ -263,18 +266,19 @@ fn set_common_name(pair: &mut Pair, text: &[u8]) {
 }
 
 fn add_country(faults: &mut Catalogue) {
-    faults.add("no C", &[114], ALL, &[Country], |pair, _, _| {
+    let mut faults = faults.touching(&[Country]);
+    faults.add("no C", &[114], ALL, |pair, _, _| {
         pair.certificate.subject.remove(&oid::country());
         pair.certificate.subject.breaks(114);
     });
-    faults.add("a second C", &[114], ALL, &[Country], |pair, _, _| {
+    faults.add("a second C", &[114], ALL, |pair, _, _| {
         pair.certificate.subject.push(Attribute::new(oid::country(), Element::printable("US")).breaking(114));
     });
-    faults.add("a second C that is wrong", &[114, 115], ALL, &[Country], |pair, _, _| {
+    faults.add("a second C that is wrong", &[114, 115], ALL, |pair, _, _| {
         let further = Attribute::new(oid::country(), Element::printable("CA"));
         pair.certificate.subject.push(further.breaking(114).breaking(115));
     });
-    faults.add("C not the PrintableString US", &[115], ALL, &[Country], |pair, random, _| {
+    faults.add("C not the PrintableString US", &[115], ALL, |pair, random, _| {
         let wrong = match random.below(6) {
             0 => Element::utf8("US"),
             1 => Element::printable("us"),
@@ -294,67 +298,58 @@ fn spoil_attribute(pair: &mut Pair, kind: &[u8], value: Element, rule: u16) {
 }
 
 fn add_organization(faults: &mut Catalogue) {
-    faults.add("no O", &[116], WITH_ORGANIZATION, &[Organization], |pair, _, _| {
+    let mut faults = faults.touching(&[Organization]);
+    faults.add("no O", &[116], WITH_ORGANIZATION, |pair, _, _| {
         pair.certificate.subject.remove(&oid::organization());
         pair.certificate.subject.breaks(116);
     });
-    faults.add("a second O", &[116], WITH_ORGANIZATION, &[Organization], |pair, _, _| {
+    faults.add("a second O", &[116], WITH_ORGANIZATION, |pair, _, _| {
         let further = Attribute::new(oid::organization(), Element::utf8("U.S. Government"));
         pair.certificate.subject.push(further.breaking(116));
     });
-    faults.add("a second O that is wrong", &[116, 117], WITH_ORGANIZATION, &[Organization], |pair, _, _| {
+    faults.add("a second O that is wrong", &[116, 117], WITH_ORGANIZATION, |pair, _, _| {
         let further = Attribute::new(oid::organization(), Element::utf8("Bureau"));
         pair.certificate.subject.push(further.breaking(116).breaking(117));
     });
-    faults.add("O with another text", &[117], WITH_ORGANIZATION, &[Organization], |pair, random, _| {
+    faults.add("O with another text", &[117], WITH_ORGANIZATION, |pair, random, _| {
         let texts = ["U.S.Government", "u.s. government", "U.S. Government ", "U.S. Governmen", ""];
         let text = random.choose(&texts);
         spoil_attribute(pair, &oid::organization(), Element::printable(text), 117);
     });
-    faults.add("O in another string type", &[117], WITH_ORGANIZATION, &[Organization], |pair, random, _| {
+    faults.add("O in another string type", &[117], WITH_ORGANIZATION, |pair, random, _| {
         let kind = *random.choose(&[tag::IA5_STRING, tag::TELETEX_STRING, tag::OCTET_STRING]);
         spoil_attribute(pair, &oid::organization(), Element::primitive(kind, b"U.S. Government"), 117);
     });
 }
 
 fn add_state(faults: &mut Catalogue) {
-    faults.add("no ST", &[118], ORGANIZATION, &[State], |pair, _, _| {
+    let mut faults = faults.touching(&[State]);
+    faults.add("no ST", &[118], ORGANIZATION, |pair, _, _| {
         pair.certificate.subject.remove(&oid::state());
         pair.certificate.subject.breaks(118);
     });
-    faults.add("a second ST", &[118], ORGANIZATION, &[State], |pair, _, _| {
+    faults.add("a second ST", &[118], ORGANIZATION, |pair, _, _| {
         let further = Attribute::new(oid::state(), Element::utf8("District of Columbia"));
         pair.certificate.subject.push(further.breaking(118));
     });
-    faults.add("ST with another text", &[119], ORGANIZATION, &[State], |pair, random, _| {
+    faults.add("ST with another text", &[119], ORGANIZATION, |pair, random, _| {
         let text = random.choose(&["DC", "District Of Columbia", "District of Columbia.", ""]);
         spoil_attribute(pair, &oid::state(), Element::utf8(text), 119);
     });
-    faults.add("ST in another string type", &[119], ORGANIZATION, &[State], |pair, _, _| {
+    faults.add("ST in another string type", &[119], ORGANIZATION, |pair, _, _| {
         let value = Element::primitive(tag::TELETEX_STRING, b"District of Columbia");
         spoil_attribute(pair, &oid::state(), value, 119);
     });
 }
 
 fn add_subject_sets(faults: &mut Catalogue) {
-    faults.add(
-        "a subject set with two members or more",
-        &[121],
-        RESPONDER,
-        &[OtherAttributes],
-        |pair, random, _| {
-            add_crowded_sets(pair, 1, random);
-        },
-    );
-    faults.add(
-        "two subject sets with too many members",
-        &[121],
-        RESPONDER,
-        &[OtherAttributes],
-        |pair, random, _| {
-            add_crowded_sets(pair, 2, random);
-        },
-    );
+    let mut faults = faults.touching(&[OtherAttributes]);
+    faults.add("a subject set with two members or more", &[121], RESPONDER, |pair, random, _| {
+        add_crowded_sets(pair, 1, random);
+    });
+    faults.add("two subject sets with too many members", &[121], RESPONDER, |pair, random, _| {
+        add_crowded_sets(pair, 2, random);
+    });
 }
 
 fn add_crowded_sets(pair: &mut Pair, count: usize, random: &mut Random) {

@@ -25,36 +25,32 @@ fn plain_usage(pair: &mut Pair) {
 }
 
 fn add_algorithm(faults: &mut Catalogue) {
-    faults.add("a key of another algorithm", &[201], ALL, &[Key, Extension(4)], |pair, random, _| {
+    let mut faults = faults.touching(&[Key, Extension(4)]);
+    faults.add("a key of another algorithm", &[201], ALL, |pair, random, _| {
         let identifier = random.choose(&[oid::ed25519, oid::sha256_with_rsa, oid::curve_p256])();
         use_other_key(&mut pair.certificate, identifier, random);
         pair.certificate.key_algorithm.marks.push(Mark::Breaks(201));
         plain_usage(pair);
     });
-    faults.add("an EC key at a responder", &[201], RESPONDER, &[Key, Extension(4)], |pair, random, _| {
+    faults.add("an EC key at a responder", &[201], RESPONDER, |pair, random, _| {
         let good_curve = random.once_in(2);
         let curve = if good_curve { oid::curve_p256() } else { oid::curve_k256() };
         use_elliptic_curve(&mut pair.certificate, Some(Element::object_identifier(&curve)), random);
         pair.certificate.key_algorithm.marks.push(Mark::Breaks(201));
         plain_usage(pair);
     });
-    faults.add(
-        "another algorithm with the bits of a bad RSA key",
-        &[201],
-        ALL,
-        &[Key, Extension(4)],
-        |pair, _, _| {
-            // Only an RSA key is judged by 204 to 207.
-            use_rsa(&mut pair.certificate, &[15], &[2]);
-            pair.certificate.key_kind = KeyKind::Other;
-            pair.certificate.key_algorithm = algorithm(oid::ed25519(), Some(Element::null())).breaking(201);
-            plain_usage(pair);
-        },
-    );
+    faults.add("another algorithm with the bits of a bad RSA key", &[201], ALL, |pair, _, _| {
+        // Only an RSA key is judged by 204 to 207.
+        use_rsa(&mut pair.certificate, &[15], &[2]);
+        pair.certificate.key_kind = KeyKind::Other;
+        pair.certificate.key_algorithm = algorithm(oid::ed25519(), Some(Element::null())).breaking(201);
+        plain_usage(pair);
+    });
 }
 
 fn add_parameters(faults: &mut Catalogue) {
-    faults.add("RSA parameters not NULL", &[202], ALL, &[Key, Extension(4)], |pair, random, _| {
+    let mut faults = faults.touching(&[Key, Extension(4)]);
+    faults.add("RSA parameters not NULL", &[202], ALL, |pair, random, _| {
         use_good_rsa(&mut pair.certificate, random);
         let parameters = match random.below(4) {
             0 => None,
@@ -65,7 +61,7 @@ fn add_parameters(faults: &mut Catalogue) {
         pair.certificate.key_algorithm = algorithm(oid::rsa_encryption(), parameters).breaking(202);
         plain_usage(pair);
     });
-    faults.add("EC parameters no allowed curve", &[203], SERVER, &[Key, Extension(4)], |pair, random, _| {
+    faults.add("EC parameters no allowed curve", &[203], SERVER, |pair, random, _| {
         let parameters = match random.below(6) {
             0 => None,
             1 => Some(Element::null()),
@@ -81,7 +77,8 @@ fn add_parameters(faults: &mut Catalogue) {
 }
 
 fn add_rsa_bits(faults: &mut Catalogue) {
-    faults.add("RSA bits not two positive INTEGERs", &[204], ALL, &[Key, Extension(4)], |pair, random, _| {
+    let mut faults = faults.touching(&[Key, Extension(4)]);
+    faults.add("RSA bits not two positive INTEGERs", &[204], ALL, |pair, random, _| {
         use_good_rsa(&mut pair.certificate, random);
         let kind = random.below(BAD_RSA_BITS);
         let modulus = good_modulus(2048, random);
@@ -131,34 +128,29 @@ fn followed_by(mut bits: Element, octets: &[u8]) -> Element {
 }
 
 fn add_modulus(faults: &mut Catalogue) {
-    faults.add("a modulus of another size", &[205], ALL, &[Key, Extension(4)], |pair, random, _| {
+    let mut faults = faults.touching(&[Key, Extension(4)]);
+    faults.add("a modulus of another size", &[205], ALL, |pair, random, _| {
         let sizes = [1024, 2040, 2047, 2049, 2056, 3071, 3073, 4095, 4097, 8192];
         let modulus = new_modulus(*random.choose(&sizes), random);
         use_rsa(&mut pair.certificate, &modulus, &[1, 0, 1]);
         break_at(pair, node::MODULUS, 205);
         plain_usage(pair);
     });
-    faults.add(
-        "a modulus with a small factor",
-        &[207],
-        RESPONDER,
-        &[Key, Extension(4)],
-        |pair, random, _| {
-            use_good_rsa(&mut pair.certificate, random);
-            let bits = *random.choose(&GOOD_SIZES);
-            let prime = match random.below(4) {
-                0 => 2,
-                1 => 3,
-                2 => 751,
-                _ => *random.choose(small_primes()),
-            };
-            let modulus = multiple_below(&good_modulus(bits, random), prime);
-            use_rsa(&mut pair.certificate, &modulus, &[1, 0, 1]);
-            break_at(pair, node::MODULUS, 207);
-            plain_usage(pair);
-        },
-    );
-    faults.add("a tiny modulus", &[205, 207], RESPONDER, &[Key, Extension(4)], |pair, _, _| {
+    faults.add("a modulus with a small factor", &[207], RESPONDER, |pair, random, _| {
+        use_good_rsa(&mut pair.certificate, random);
+        let bits = *random.choose(&GOOD_SIZES);
+        let prime = match random.below(4) {
+            0 => 2,
+            1 => 3,
+            2 => 751,
+            _ => *random.choose(small_primes()),
+        };
+        let modulus = multiple_below(&good_modulus(bits, random), prime);
+        use_rsa(&mut pair.certificate, &modulus, &[1, 0, 1]);
+        break_at(pair, node::MODULUS, 207);
+        plain_usage(pair);
+    });
+    faults.add("a tiny modulus", &[205, 207], RESPONDER, |pair, _, _| {
         use_rsa(&mut pair.certificate, &[15], &[1, 0, 1]);
         break_at(pair, node::MODULUS, 205);
         break_at(pair, node::MODULUS, 207);
@@ -167,32 +159,21 @@ fn add_modulus(faults: &mut Catalogue) {
 }
 
 fn add_exponent(faults: &mut Catalogue) {
-    faults.add(
-        "an exponent that is even or out of range",
-        &[206],
-        ALL,
-        &[Key, Extension(4)],
-        |pair, random, _| {
-            let modulus = good_modulus(2048, random);
-            let exponent = bad_exponent(random);
-            use_rsa(&mut pair.certificate, &modulus, &exponent);
-            break_at(pair, node::EXPONENT, 206);
-            plain_usage(pair);
-        },
-    );
-    faults.add(
-        "an exponent of 3 with a modulus of 1024 bits",
-        &[205, 206],
-        ALL,
-        &[Key, Extension(4)],
-        |pair, random, _| {
-            let modulus = new_modulus(1024, random);
-            use_rsa(&mut pair.certificate, &modulus, &[3]);
-            break_at(pair, node::MODULUS, 205);
-            break_at(pair, node::EXPONENT, 206);
-            plain_usage(pair);
-        },
-    );
+    let mut faults = faults.touching(&[Key, Extension(4)]);
+    faults.add("an exponent that is even or out of range", &[206], ALL, |pair, random, _| {
+        let modulus = good_modulus(2048, random);
+        let exponent = bad_exponent(random);
+        use_rsa(&mut pair.certificate, &modulus, &exponent);
+        break_at(pair, node::EXPONENT, 206);
+        plain_usage(pair);
+    });
+    faults.add("an exponent of 3 with a modulus of 1024 bits", &[205, 206], ALL, |pair, random, _| {
+        let modulus = new_modulus(1024, random);
+        use_rsa(&mut pair.certificate, &modulus, &[3]);
+        break_at(pair, node::MODULUS, 205);
+        break_at(pair, node::EXPONENT, 206);
+        plain_usage(pair);
+    });
 }
 
 fn bad_exponent(random: &mut Random) -> Vec<u8> {

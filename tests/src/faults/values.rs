@@ -9,21 +9,25 @@ use crate::general_names::*;
 use crate::object_identifiers as oid;
 use crate::profile::*;
 use crate::random::Random;
+use crate::variations::{any_general_name, any_general_names, second_usage};
 
 pub(super) fn add(faults: &mut Catalogue) {
     add_authority_key(faults);
+    add_issuers_key(faults);
     add_basic_constraints(faults);
     add_subject_key(faults);
     add_usage(faults);
     add_purposes(faults);
     add_policies(faults);
     add_host_names(faults);
-    add_access(faults);
+    add_missing_access(faults);
+    add_wrong_access(faults);
     add_points(faults);
 }
 
 fn add_authority_key(faults: &mut Catalogue) {
-    faults.add("no key identifier of the authority", &[401], ALL, &[Extension(1)], |pair, random, _| {
+    let mut faults = faults.touching(&[Extension(1)]);
+    faults.add("no key identifier of the authority", &[401], ALL, |pair, random, _| {
         let mut fields = Vec::new();
         if random.once_in(2) {
             fields.push(Element::constructed(tag::context_constructed(1), any_general_names(random)));
@@ -31,7 +35,7 @@ fn add_authority_key(faults: &mut Catalogue) {
         }
         set_authority_key(pair, Element::sequence(fields));
     });
-    faults.add("another key identifier of the authority", &[401], ALL, &[Extension(1)], |pair, random, _| {
+    faults.add("another key identifier of the authority", &[401], ALL, |pair, random, _| {
         let own = random.octets(20);
         let mut other = own.clone();
         match random.below(3) {
@@ -42,7 +46,11 @@ fn add_authority_key(faults: &mut Catalogue) {
         pair.issuer.extension(&oid::subject_key_identifier()).set_value(Element::octet_string(&own));
         set_authority_key(pair, Element::sequence(vec![Element::primitive(tag::context(0), &other)]));
     });
-    faults.add("no key identifier at the issuer", &[401], ALL, &[Extension(1)], |pair, random, _| {
+}
+
+fn add_issuers_key(faults: &mut Catalogue) {
+    let mut faults = faults.touching(&[Extension(1)]);
+    faults.add("no key identifier at the issuer", &[401], ALL, |pair, random, _| {
         if random.once_in(2) {
             pair.issuer.remove_extension(&oid::subject_key_identifier());
         } else {
@@ -50,25 +58,19 @@ fn add_authority_key(faults: &mut Catalogue) {
         }
         pair.extension(1).breaks_at_value(401);
     });
-    faults.add("a bad key identifier at the issuer", &[401], ALL, &[Extension(1)], |pair, random, _| {
+    faults.add("a bad key identifier at the issuer", &[401], ALL, |pair, random, _| {
         let mut values = crate::bad_values::bad_values(3);
         let chosen = values.swap_remove(random.below(values.len()));
         pair.issuer.extension(&oid::subject_key_identifier()).value = chosen.parts;
         pair.extension(1).breaks_at_value(401);
     });
-    faults.add(
-        "a bad key identifier before a good one at the issuer",
-        &[401],
-        ALL,
-        &[Extension(1)],
-        |pair, _, _| {
-            let identifier = oid::subject_key_identifier();
-            let good = pair.issuer.extension(&identifier).clone();
-            pair.issuer.extension(&identifier).value = vec![Part::Octets(vec![4, 5])];
-            pair.issuer.extensions.push(good);
-            pair.extension(1).breaks_at_value(401);
-        },
-    );
+    faults.add("a bad key identifier before a good one at the issuer", &[401], ALL, |pair, _, _| {
+        let identifier = oid::subject_key_identifier();
+        let good = pair.issuer.extension(&identifier).clone();
+        pair.issuer.extension(&identifier).value = vec![Part::Octets(vec![4, 5])];
+        pair.issuer.extensions.push(good);
+        pair.extension(1).breaks_at_value(401);
+    });
 }
 
 fn set_authority_key(pair: &mut Pair, value: Element) {
@@ -77,7 +79,8 @@ fn set_authority_key(pair: &mut Pair, value: Element) {
 }
 
 fn add_basic_constraints(faults: &mut Catalogue) {
-    faults.add("basic constraints not empty", &[402], SERVER, &[Extension(2)], |pair, random, _| {
+    let mut faults = faults.touching(&[Extension(2)]);
+    faults.add("basic constraints not empty", &[402], SERVER, |pair, random, _| {
         let fields = match random.below(3) {
             0 => vec![Element::boolean(true)],
             1 => vec![Element::boolean(true), Element::integer(&[0])],
@@ -89,28 +92,24 @@ fn add_basic_constraints(faults: &mut Catalogue) {
 }
 
 fn add_subject_key(faults: &mut Catalogue) {
-    faults.add(
-        "a subject key identifier not of 20 octets",
-        &[403],
-        ALL,
-        &[Extension(3)],
-        |pair, random, _| {
-            let length = *random.choose(&[0, 1, 19, 21, 32, 127, 128]);
-            let identifier = random.octets(length);
-            pair.extension(3).set_value(Element::octet_string(&identifier));
-            pair.extension(3).breaks_at_value(403);
-        },
-    );
+    let mut faults = faults.touching(&[Extension(3)]);
+    faults.add("a subject key identifier not of 20 octets", &[403], ALL, |pair, random, _| {
+        let length = *random.choose(&[0, 1, 19, 21, 32, 127, 128]);
+        let identifier = random.octets(length);
+        pair.extension(3).set_value(Element::octet_string(&identifier));
+        pair.extension(3).breaks_at_value(403);
+    });
 }
 
 fn add_usage(faults: &mut Catalogue) {
-    faults.add("no digitalSignature", &[404], ALL, &[Extension(4), Key], |pair, random, _| {
+    let mut faults = faults.touching(&[Extension(4), Key]);
+    faults.add("no digitalSignature", &[404], ALL, |pair, random, _| {
         let second = second_usage(pair).filter(|_| random.once_in(2));
         let bits: Vec<usize> = second.into_iter().collect();
         pair.extension(4).set_value(named_bits(&bits));
         pair.extension(4).breaks_at_value(404);
     });
-    faults.add("a usage too many", &[405], ALL, &[Extension(4), Key], |pair, random, _| {
+    faults.add("a usage too many", &[405], ALL, |pair, random, _| {
         let mut bits = vec![usage::DIGITAL_SIGNATURE];
         for _ in 0..random.between(1, 3) {
             bits.push(forbidden_usage(pair, random));
@@ -118,25 +117,19 @@ fn add_usage(faults: &mut Catalogue) {
         pair.extension(4).set_value(named_bits(&bits));
         pair.extension(4).breaks_at_value(405);
     });
-    faults.add("another usage instead", &[404, 405], ALL, &[Extension(4), Key], |pair, random, _| {
+    faults.add("another usage instead", &[404, 405], ALL, |pair, random, _| {
         let bit = forbidden_usage(pair, random);
         pair.extension(4).set_value(named_bits(&[bit]));
         pair.extension(4).breaks_at_value(404);
         pair.extension(4).breaks_at_value(405);
     });
-    faults.add(
-        "key encipherment with another key",
-        &[201, 405],
-        SERVER,
-        &[Extension(4), Key],
-        |pair, random, _| {
-            crate::keys::use_other_key(&mut pair.certificate, oid::ed25519(), random);
-            pair.certificate.key_algorithm.marks.push(crate::element::Mark::Breaks(201));
-            let bit = *random.choose(&[usage::KEY_ENCIPHERMENT, usage::KEY_AGREEMENT]);
-            pair.extension(4).set_value(named_bits(&[0, bit]));
-            pair.extension(4).breaks_at_value(405);
-        },
-    );
+    faults.add("key encipherment with another key", &[201, 405], SERVER, |pair, random, _| {
+        crate::keys::use_other_key(&mut pair.certificate, oid::ed25519(), random);
+        pair.certificate.key_algorithm.marks.push(crate::element::Mark::Breaks(201));
+        let bit = *random.choose(&[usage::KEY_ENCIPHERMENT, usage::KEY_AGREEMENT]);
+        pair.extension(4).set_value(named_bits(&[0, bit]));
+        pair.extension(4).breaks_at_value(405);
+    });
 }
 
 fn forbidden_usage(pair: &Pair, random: &mut Random) -> usize {
@@ -159,19 +152,20 @@ fn purpose(identifier: Vec<u8>) -> Element {
 }
 
 fn add_purposes(faults: &mut Catalogue) {
-    faults.add("clientAuth without serverAuth", &[407], SERVER, &[Extension(5)], |pair, _, _| {
+    let mut faults = faults.touching(&[Extension(5)]);
+    faults.add("clientAuth without serverAuth", &[407], SERVER, |pair, _, _| {
         pair.extension(5).set_value(Element::sequence(vec![purpose(oid::client_auth())]));
         pair.extension(5).breaks_at_value(407);
     });
-    faults.add("another purpose instead", &[407, 408], ALL, &[Extension(5)], |pair, random, _| {
+    faults.add("another purpose instead", &[407, 408], ALL, |pair, random, _| {
         let other = other_purpose(pair.profile, random);
         pair.extension(5).set_value(Element::sequence(vec![purpose(other).breaking(408)]));
         pair.extension(5).breaks_at_value(407);
     });
-    faults.add("one odd purpose", &[408], ALL, &[Extension(5)], |pair, random, _| {
+    faults.add("one odd purpose", &[408], ALL, |pair, random, _| {
         add_odd_purposes(pair, 1, random);
     });
-    faults.add("three odd purposes, two alike", &[408], ALL, &[Extension(5)], |pair, random, _| {
+    faults.add("three odd purposes, two alike", &[408], ALL, |pair, random, _| {
         let other = other_purpose(pair.profile, random);
         pair.extension(5).value().push(purpose(other.clone()).breaking(408));
         pair.extension(5).value().push(purpose(other).breaking(408));
@@ -202,14 +196,15 @@ fn other_purpose(profile: u8, random: &mut Random) -> Vec<u8> {
 }
 
 fn add_policies(faults: &mut Catalogue) {
-    faults.add("no federal policy", &[409], ALL, &[Extension(6)], |pair, random, _| {
+    let mut faults = faults.touching(&[Extension(6)]);
+    faults.add("no federal policy", &[409], ALL, |pair, random, _| {
         let mut policies: Vec<Element> = Vec::new();
         policies.extend(forum_policy(pair.profile).map(|identifier| policy(identifier, vec![])));
         let other = random.choose(&[oid::federal_policy_arc, oid::beside_federal_policy, oid::any_policy])();
         policies.push(policy(other, vec![]));
         set_policies(pair, policies, 409);
     });
-    faults.add("no policy of the forum", &[410], SERVER, &[Extension(6)], |pair, random, _| {
+    faults.add("no policy of the forum", &[410], SERVER, |pair, random, _| {
         let mut policies = vec![policy(oid::federal_policy(), vec![])];
         let other_kind = forum_policy(3 - pair.profile).expect("a server profile has a forum policy");
         match random.below(4) {
@@ -223,15 +218,15 @@ fn add_policies(faults: &mut Catalogue) {
         }
         set_policies(pair, policies, 410);
     });
-    faults.add("neither policy", &[409, 410], SERVER, &[Extension(6)], |pair, _, _| {
+    faults.add("neither policy", &[409, 410], SERVER, |pair, _, _| {
         set_policies(pair, vec![policy(oid::any_policy(), vec![])], 409);
         pair.extension(6).breaks_at_value(410);
     });
-    faults.add("one odd qualifier", &[411], ALL, &[Extension(6)], |pair, random, _| {
+    faults.add("one odd qualifier", &[411], ALL, |pair, random, _| {
         let qualifiers = vec![statement(), odd_qualifier(random), statement()];
         pair.extension(6).value().push(policy(oid::any_policy(), qualifiers));
     });
-    faults.add("three odd qualifiers", &[411], ALL, &[Extension(6)], |pair, random, _| {
+    faults.add("three odd qualifiers", &[411], ALL, |pair, random, _| {
         let first = policy(oid::any_policy(), vec![odd_qualifier(random)]);
         let second =
             policy(oid::private_extension(), vec![odd_qualifier(random), statement(), odd_qualifier(random)]);
@@ -272,33 +267,34 @@ fn add_names(pair: &mut Pair, names: Vec<Element>, random: &mut Random) {
 }
 
 fn add_host_names(faults: &mut Catalogue) {
-    faults.add("a name that is no host name", &[412], ALL, &[Extension(7)], |pair, random, _| {
+    let mut faults = faults.touching(&[Extension(7)]);
+    faults.add("a name that is no host name", &[412], ALL, |pair, random, _| {
         let name = odd_name(random).breaking(412);
         add_names(pair, vec![name], random);
     });
-    faults.add("four names that are no host names", &[412], ALL, &[Extension(7)], |pair, random, _| {
+    faults.add("four names that are no host names", &[412], ALL, |pair, random, _| {
         let names = (0..4).map(|_| odd_name(random).breaking(412)).collect();
         add_names(pair, names, random);
     });
-    faults.add("an underscore in a host name", &[413], SERVER, &[Extension(7)], |pair, random, _| {
+    faults.add("an underscore in a host name", &[413], SERVER, |pair, random, _| {
         let host =
             random.choose(&["_dns.agency.example", "under_score.agency.example", "a.b_", "_._", "a._"]);
         add_names(pair, vec![dns(host).breaking(413)], random);
     });
-    faults.add("an underscore in two host names", &[413], SERVER, &[Extension(7)], |pair, random, _| {
+    faults.add("an underscore in two host names", &[413], SERVER, |pair, random, _| {
         add_names(pair, vec![dns("a_.example").breaking(413), dns("a_.example").breaking(413)], random);
     });
-    faults.add("a malformed host name", &[414], ALL, &[Extension(7)], |pair, random, _| {
+    faults.add("a malformed host name", &[414], ALL, |pair, random, _| {
         let host = random.choose(&malformed_hosts()).clone();
         add_names(pair, vec![Element::primitive(tag::context(2), &host).breaking(414)], random);
     });
-    faults.add("three malformed host names", &[414], ALL, &[Extension(7)], |pair, random, _| {
+    faults.add("three malformed host names", &[414], ALL, |pair, random, _| {
         let host = |random: &mut Random| random.choose(&malformed_hosts()).clone();
         let names =
             (0..3).map(|_| Element::primitive(tag::context(2), &host(random)).breaking(414)).collect();
         add_names(pair, names, random);
     });
-    faults.add("an underscore alone", &[413, 414], SERVER, &[Extension(7)], |pair, random, _| {
+    faults.add("an underscore alone", &[413, 414], SERVER, |pair, random, _| {
         add_names(pair, vec![dns("_").breaking(413).breaking(414)], random);
     });
 }
@@ -357,8 +353,9 @@ pub fn long_host(length: usize) -> Vec<u8> {
     host
 }
 
-fn add_access(faults: &mut Catalogue) {
-    faults.add("no OCSP address", &[415], SERVER, &[Extension(8)], |pair, random, _| {
+fn add_missing_access(faults: &mut Catalogue) {
+    let mut faults = faults.touching(&[Extension(8)]);
+    faults.add("no OCSP address", &[415], SERVER, |pair, random, _| {
         let mut entries = vec![access(oid::access_to_issuers(), uri("http://a/b"))];
         match random.below(3) {
             0 => entries.push(access(oid::access_by_ocsp(), dns("ocsp.agency.example"))),
@@ -367,55 +364,41 @@ fn add_access(faults: &mut Catalogue) {
         }
         set_access(pair, entries, 415);
     });
-    faults.add("no caIssuers entry at a server", &[416], SERVER, &[Extension(8)], |pair, _, _| {
+    faults.add("no caIssuers entry at a server", &[416], SERVER, |pair, _, _| {
         set_access(pair, vec![access(oid::access_by_ocsp(), uri("http://ocsp"))], 416);
     });
-    faults.add(
-        "no caIssuers address at a responder",
-        &[416],
-        RESPONDER,
-        &[Extension(8)],
-        |pair, random, _| {
-            let mut entries = vec![access(oid::access_by_ocsp(), uri("http://ocsp"))];
-            if random.once_in(2) {
-                entries.push(access(oid::access_to_issuers(), odd_location()));
-            }
-            set_access(pair, entries, 416);
-        },
-    );
-    faults.add(
-        "caIssuers a directory name at a server",
-        &[416, 417],
-        SERVER,
-        &[Extension(8)],
-        |pair, _, _| {
-            let entries = vec![
-                access(oid::access_to_issuers(), odd_location()).breaking(417),
-                access(oid::access_by_ocsp(), uri("http://ocsp")),
-            ];
-            set_access(pair, entries, 416);
-        },
-    );
-    faults.add("a caIssuers entry not an HTTP URI", &[417], SERVER, &[Extension(8)], |pair, random, _| {
+    faults.add("no caIssuers address at a responder", &[416], RESPONDER, |pair, random, _| {
+        let mut entries = vec![access(oid::access_by_ocsp(), uri("http://ocsp"))];
+        if random.once_in(2) {
+            entries.push(access(oid::access_to_issuers(), odd_location()));
+        }
+        set_access(pair, entries, 416);
+    });
+    faults.add("caIssuers a directory name at a server", &[416, 417], SERVER, |pair, _, _| {
+        let entries = vec![
+            access(oid::access_to_issuers(), odd_location()).breaking(417),
+            access(oid::access_by_ocsp(), uri("http://ocsp")),
+        ];
+        set_access(pair, entries, 416);
+    });
+}
+
+fn add_wrong_access(faults: &mut Catalogue) {
+    let mut faults = faults.touching(&[Extension(8)]);
+    faults.add("a caIssuers entry not an HTTP URI", &[417], SERVER, |pair, random, _| {
         let location = not_http(random);
         pair.extension(8).value().push(access(oid::access_to_issuers(), location).breaking(417));
     });
-    faults.add(
-        "three caIssuers entries not HTTP URIs",
-        &[417],
-        SERVER,
-        &[Extension(8)],
-        |pair, random, _| {
-            for _ in 0..3 {
-                let location = not_http(random);
-                let list = pair.extension(8).value();
-                list.insert(
-                    random.below(list.contents.len() + 1),
-                    access(oid::access_to_issuers(), location).breaking(417),
-                );
-            }
-        },
-    );
+    faults.add("three caIssuers entries not HTTP URIs", &[417], SERVER, |pair, random, _| {
+        for _ in 0..3 {
+            let location = not_http(random);
+            let list = pair.extension(8).value();
+            list.insert(
+                random.below(list.contents.len() + 1),
+                access(oid::access_to_issuers(), location).breaking(417),
+            );
+        }
+    });
 }
 
 fn set_access(pair: &mut Pair, entries: Vec<Element>, rule: u16) {
@@ -440,7 +423,8 @@ pub const NOT_HTTP: [&str; 8] =
     ["", "http://", "HTTP://", "http:/", "https://a/b", "ftp://a/b", " http://a/b", "http:\\\\a"];
 
 fn add_points(faults: &mut Catalogue) {
-    faults.add("no HTTP address in any point", &[418], ALL, &[Extension(9)], |pair, random, _| {
+    let mut faults = faults.touching(&[Extension(9)]);
+    faults.add("no HTTP address in any point", &[418], ALL, |pair, random, _| {
         let mut names = vec![not_http(random), mail("http://a")];
         random.shuffle(&mut names);
         let mut points = vec![point(vec![full_name(names)])];
@@ -450,38 +434,26 @@ fn add_points(faults: &mut Catalogue) {
         set_points(pair, points);
         pair.extension(9).breaks_at_value(418);
     });
-    faults.add("only a relative name", &[418], ALL, &[Extension(9)], |pair, _, _| {
+    faults.add("only a relative name", &[418], ALL, |pair, _, _| {
         let value = Element::primitive(tag::IA5_STRING, b"http://crl.agency.example/");
         let attribute = crate::certificate::Attribute::new(oid::common_name(), value).element();
         set_points(pair, vec![point(vec![relative_name(vec![attribute])])]);
         pair.extension(9).breaks_at_value(418);
     });
-    faults.add(
-        "an HTTP address only as the list's issuer",
-        &[418, 419],
-        ALL,
-        &[Extension(9)],
-        |pair, _, _| {
-            set_points(pair, vec![point(vec![list_issuer(vec![uri("http://a")])]).breaking(419)]);
-            pair.extension(9).breaks_at_value(418);
-        },
-    );
-    faults.add("a point with reasons or its own issuer", &[419], ALL, &[Extension(9)], |pair, random, _| {
+    faults.add("an HTTP address only as the list's issuer", &[418, 419], ALL, |pair, _, _| {
+        set_points(pair, vec![point(vec![list_issuer(vec![uri("http://a")])]).breaking(419)]);
+        pair.extension(9).breaks_at_value(418);
+    });
+    faults.add("a point with reasons or its own issuer", &[419], ALL, |pair, random, _| {
         let odd = odd_point(random);
         let mut points = vec![http_point(), odd];
         random.shuffle(&mut points);
         set_points(pair, points);
     });
-    faults.add(
-        "three points with reasons or their own issuers",
-        &[419],
-        ALL,
-        &[Extension(9)],
-        |pair, random, _| {
-            let points = vec![odd_point(random), odd_point(random), http_point(), odd_point(random)];
-            set_points(pair, points);
-        },
-    );
+    faults.add("three points with reasons or their own issuers", &[419], ALL, |pair, random, _| {
+        let points = vec![odd_point(random), odd_point(random), http_point(), odd_point(random)];
+        set_points(pair, points);
+    });
 }
 
 fn set_points(pair: &mut Pair, points: Vec<Element>) {
