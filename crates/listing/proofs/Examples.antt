@@ -7,9 +7,9 @@ use mathlib.Core.Path.{_≡_, refl}
 use mathlib.Core.List.{List, [], _∷_, map}
 use Prim.Native.Nat.{ℕ}
 use Prim.Native.String.{String}
-use Rattle.listing.specs.Texts.{word, digitsBy, decimal}
 use Rattle.listing.specs.Lines.{findingLine, refusalText, recordLine, lostLine, totalLine, tooLongLine}
 use Rattle.listing.specs.Listing.{findingLines, recordLines, linesOf, listingOf, printed}
+use Rattle.texts.specs.Texts.{word, digitsBy, decimal}
 use Rattle.report.specs.Entries.{decode}
 use Rattle.lint.specs.declared.refusals.Side.the-variants.{Certificate, Issuer}
 use Rattle.lint.specs.declared.refusals.Refusal.the-variants.{Unsound, NotCertificate}

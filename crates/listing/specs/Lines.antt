@@ -2,7 +2,7 @@
 use mathlib.Core.List.{List, _++_}
 use Prim.Native.Nat.{ℕ, _+_, _*_}
 use Prim.Native.String.{String}
-use Rattle.listing.specs.Texts.{word, decimal}
+use Rattle.texts.specs.Texts.{word, fieldOf}
 use Rattle.octets.specs.Numbers.{pairAt}
 use Rattle.report.specs.Entries.{width}
 use Rattle.report.specs.declared.sink.Entry.{Entry}
@@ -14,10 +14,6 @@ use Rattle.reader.specs.declared.finding.Loss.{Loss}
 use Rattle.reader.specs.declared.finding.Loss.the-variants.{Short, Unsound, Stray}
 use Rattle.reader.specs.declared.stepping.Record.{Record}
 use Rattle.reader.specs.declared.counting.Counts.{Counts}
-
--- a word, and a number behind it
-abbrev pub fieldOf : String → ℕ → List ℕ
-fieldOf w n = word w ++ decimal n
 
 -- entry k of a report, from 0
 unfoldable pub entryOf : List ℕ → ℕ → Entry

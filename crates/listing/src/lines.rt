@@ -1,6 +1,4 @@
 // The lines (document 01, "The deck"), each with the line feed that ends it.
-use crate::texts::field;
-use crate::texts::word;
 use lint::Answer;
 use lint::Refusal;
 use octets::Place;
@@ -9,9 +7,11 @@ use reader::Item;
 use reader::Loss;
 use reader::Record;
 use report::Entry;
+use texts::field;
+use texts::word;
 ghost use mathlib.Core.Path.{_≡_};
 ghost use Rattle.report.specs.Entries.{decode};
-ghost use Rattle.listing.specs.Putting.{Put};
+ghost use Rattle.texts.specs.Putting.{Put};
 ghost use Rattle.listing.specs.Lines.{entryOf, findingLine, refusalText, answerText, recordLine, lostLine, totalLine, tooLongLine};
 ghost use Rattle.listing.specs.Listing.{findingLines, recordLines, itemLines};
 

@@ -14,7 +14,7 @@ use native.Mathlib.Numerals.{add-one}
 use native.Mathlib.Omega.{arith}
 use lib.ListN.{length, take, drop}
 use lib.Seq.{take-nil, getD-take, getD-drop}
-use Rattle.listing.specs.Putting.{Put}
+use Rattle.texts.specs.Putting.{Put}
 use Rattle.listing.specs.Lines.{entryOf, findingLine, recordLine}
 use Rattle.listing.specs.Listing.{findingLines, entriesOf, recordLines}
 use Rattle.octets.specs.Octets.{octetAt}
@@ -27,7 +27,7 @@ use Rattle.lint.specs.declared.refusals.Refusal.{Refusal}
 use Rattle.lint.specs.declared.linting.Answer.{Answer}
 use Rattle.lint.specs.declared.linting.Answer.the-variants.{Report, Refused}
 use Rattle.reader.specs.declared.stepping.Record.{Record}
-use Rattle.listing.proofs.Laws.Putting.{put-nothing, _⨾_}
+use Rattle.texts.proofs.Laws.Putting.{put-nothing, _⨾_}
 
 -- an entry by its three numbers
 abbrev pub made : ℕ → ℕ → ℕ → Entry

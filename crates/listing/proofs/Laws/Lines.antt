@@ -12,9 +12,9 @@ use native.Mathlib.Omega.{arith}
 use lib.ListN.{length, drop, length-append}
 use lib.Seq.{getD-drop}
 use lib.Dec.{ltb}
-use Rattle.listing.specs.Texts.{word, decimal}
-use Rattle.listing.specs.Lines.{fieldOf, findingLine, refusalText, answerText, recordLine, lostLine, totalLine, tooLongLine}
+use Rattle.listing.specs.Lines.{findingLine, refusalText, answerText, recordLine, lostLine, totalLine, tooLongLine}
 use Rattle.listing.specs.Listing.{findingLines, entriesOf, recordLines, itemLines}
+use Rattle.texts.specs.Texts.{word, fieldOf}
 use Rattle.octets.specs.Octets.{octetAt}
 use Rattle.octets.specs.Numbers.{pairAt}
 use Rattle.report.specs.Entries.{width, decode}
@@ -37,13 +37,9 @@ use Rattle.reader.specs.Stepping.{itemOf, eventAt, itemAt}
 use Rattle.reader.specs.declared.stepping.Record.{Record}
 use Rattle.reader.specs.declared.stepping.Item.{Item}
 use Rattle.reader.specs.declared.counting.Counts.{Counts}
-use Rattle.listing.proofs.Laws.Decimal.{decimal-long}
+use Rattle.texts.proofs.Laws.Decimal.{decimal-long, field-long}
 use Rattle.listing.proofs.Laws.Entries.{made}
 use Rattle.reader.specs.declared.stepping.Item.the-variants as Items
-
--- a field in front of a text
-field-long : (w : List ℕ) (n k : ℕ) (rest : List ℕ) → n < 10 ^ k → 0 < k → length ((w ++ decimal n) ++ rest) ≤ length w + k + length rest
-field-long w n k rest h l = rw (length-append, length-append) (omega (arith, decimal-long n k h l))
 
 pub finding-long : (e : Entry) → e .rule < 65536 → e .place .start < 65536 → e .place .len < 65536 → length (findingLine e) ≤ 30
 unfolding findingLine word

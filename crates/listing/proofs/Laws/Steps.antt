@@ -11,7 +11,7 @@ use Prim.Native.Nat.{ℕ, zero, suc, _+_, _*_, _≤_, _<_}
 use native.Mathlib.Omega.{arith}
 use lib.ListN.{length}
 use borrow.Author.Tests.{le-ltb}
-use Rattle.listing.specs.Putting.{Put}
+use Rattle.texts.specs.Putting.{Put}
 use Rattle.listing.specs.Lines.{totalLine}
 use Rattle.listing.specs.Listing.{itemLines, linesOf, listingOf}
 use Rattle.listing.specs.Steps.{passedAt, Listed, steppedLines}
@@ -25,7 +25,7 @@ use Rattle.reader.specs.Walking.{Handed, handedAt, unlessEnd, walk}
 use Rattle.reader.specs.declared.stepping.Item.{Item}
 use Rattle.reader.proofs.Laws.Walking.{walked}
 use Rattle.reader.proofs.Laws.Passing.{item-blocks, item-within, item-moves}
-use Rattle.listing.proofs.Laws.Putting.{put-inside, one-answer}
+use Rattle.texts.proofs.Laws.Putting.{put-inside, one-answer}
 use Rattle.listing.proofs.Laws.Listing.{room-lines}
 use Rattle.reader.specs.declared.stepping.Item.the-variants as Items
 

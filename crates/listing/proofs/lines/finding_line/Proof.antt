@@ -1,8 +1,8 @@
 -- `listing::lines::finding_line` meets its contract. Assumes nothing.
 use borrow.Author.Needs.{needs}
-use Rattle.listing.specs.Texts.{word}
+use Rattle.texts.specs.Texts.{word}
 use Rattle.listing.specs.Lines.{findingLine}
-use Rattle.listing.proofs.Laws.Putting.{_⨾_}
+use Rattle.texts.proofs.Laws.Putting.{_⨾_}
 use Rattle.listing.proofs.lines.finding_line.Statement.{statement}
 use Rattle.listing.proofs.lines.finding_line.Tie as tie
 

@@ -4,7 +4,7 @@ use Prim.Native.Nat.{_-_, _≤_}
 use native.Mathlib.Omega.{arith}
 use lib.ListN.{length}
 use borrow.Author.Needs.{needs}
-use Rattle.listing.specs.Putting.{Put}
+use Rattle.texts.specs.Putting.{Put}
 use Rattle.listing.specs.Listing.{findingLines}
 use Rattle.report.specs.Entries.{decode}
 use Rattle.listing.proofs.Laws.Entries.{no-findings, one-finding, all-findings}

@@ -1,6 +1,6 @@
 -- `listing::lines::item_lines` meets its contract. Assumes nothing.
 use borrow.Author.Needs.{needs}
-use Rattle.listing.proofs.Laws.Putting.{put-nothing}
+use Rattle.texts.proofs.Laws.Putting.{put-nothing}
 use Rattle.listing.proofs.lines.item_lines.Statement.{statement}
 use Rattle.listing.proofs.lines.item_lines.Tie as tie
 

@@ -1,6 +1,6 @@
 -- `listing::lines::outcome` meets its contract. Assumes nothing.
 use borrow.Author.Needs.{needs}
-use Rattle.listing.specs.Texts.{word}
+use Rattle.texts.specs.Texts.{word}
 use Rattle.listing.proofs.lines.outcome.Statement.{statement}
 use Rattle.listing.proofs.lines.outcome.Tie as tie
 

@@ -1,6 +1,6 @@
 -- `listing::lines::too_long` meets its contract. Assumes nothing.
 use borrow.Author.Needs.{needs}
-use Rattle.listing.specs.Texts.{word}
+use Rattle.texts.specs.Texts.{word}
 use Rattle.listing.specs.Lines.{tooLongLine}
 use Rattle.listing.proofs.lines.too_long.Statement.{statement}
 use Rattle.listing.proofs.lines.too_long.Tie as tie
