@@ -1,5 +1,5 @@
 -- Laws of the definitions, by file.
-pub mod Entries
+pub mod Findings
 pub mod Lines
 pub mod Listing
 pub mod Steps

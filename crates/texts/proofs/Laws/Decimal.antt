@@ -3,7 +3,6 @@
 --     tenth                       where there is a digit more, there is room for it
 --     saidFrom, decimal-right     the digits say the number
 --     decimal-long, wide-long     how many digits: at most k below 10 ^ k, so at most 20 below 2 ^ 64
---     field-long                  how many octets a text takes with a word and a number in front of it
 --     no-zero-first               the first digit of a number above 0 is not 0
 --     AllDigits, all-digits       each octet is one of 48 to 57
 -- Assumes nothing.
@@ -98,9 +97,6 @@ decimal-long n (suc k) h l = go (decimal-long (n / 10) k) (ltb n 10) refl
 
 pub wide-long : (n : ℕ) → n < 2 ^ 64 → length (decimal n) ≤ 20
 wide-long n h = decimal-long n 20 (omega arith) (omega arith)
-
-pub field-long : (w : List ℕ) (n k : ℕ) (rest : List ℕ) → n < 10 ^ k → 0 < k → length ((w ++ decimal n) ++ rest) ≤ length w + k + length rest
-field-long w n k rest h l = rw (length-append, length-append) (omega (arith, decimal-long n k h l))
 
 pub no-zero-first : (n : ℕ) → 0 < n → 48 < getD (decimal n) 0 0
 no-zero-first =
