@@ -23,7 +23,7 @@ use Rattle.reader.specs.Runs.{blocks, isPart, isWhole, run, starts, recordFrom}
 use Rattle.reader.specs.Events.{lossOf, events}
 use Rattle.reader.specs.Stepping.{lintedRoom}
 use Rattle.reader.specs.Counting.{tallyOf}
-use Rattle.listing.specs.Texts.{word, digitsBy, decimal}
+use Rattle.texts.specs.Texts.{word, digitsBy, decimal}
 use Rattle.listing.specs.Lines.{refusalText, recordLine, lostLine, totalLine}
 use Rattle.listing.specs.Listing.{findingLines, recordLines, listingOf, printed}
 

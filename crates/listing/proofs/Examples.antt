@@ -7,10 +7,10 @@ use mathlib.Core.Path.{_≡_, refl}
 use mathlib.Core.List.{List, [], _∷_, map}
 use Prim.Native.Nat.{ℕ}
 use Prim.Native.String.{String}
-use Rattle.listing.specs.Texts.{word, digitsBy, decimal}
 use Rattle.listing.specs.Lines.{findingLine, refusalText, recordLine, lostLine, totalLine, tooLongLine}
 use Rattle.listing.specs.Listing.{findingLines, recordLines, linesOf, listingOf, printed}
-use Rattle.report.specs.Entries.{decode}
+use Rattle.texts.specs.Texts.{word, digitsBy, decimal}
+use Rattle.report.specs.Entries.{entryOf, decode}
 use Rattle.lint.specs.declared.refusals.Side.the-variants.{Certificate, Issuer}
 use Rattle.lint.specs.declared.refusals.Refusal.the-variants.{Unsound, NotCertificate}
 use Rattle.lint.specs.declared.linting.Answer.{Answer}
@@ -59,7 +59,7 @@ pub all-lines : linesOf
     ∷ handed 5 (Items.Record (told 2 1 (Refused (NotCertificate Certificate 0)))) []
     ∷ [])
     ≡ word "record 1 profile 3 findings 2\n  104 at 13 length 3\n  400 at 256 length 10\nlost 4 stray\nrecord 2 profile 1 refused 6 side 1 at 0\n"
-unfolding findingLines recordLines findingLine refusalText recordLine lostLine word decimal digitsBy decode
+unfolding findingLines recordLines findingLine refusalText recordLine lostLine word decimal digitsBy decode entryOf
 all-lines = refl
 
 pub empty : printed [] ≡ word "records 0 blocks 0 lost 0\n"

@@ -1,7 +1,5 @@
 -- Laws of the definitions, by file.
-pub mod Putting
-pub mod Decimal
-pub mod Entries
+pub mod Findings
 pub mod Lines
 pub mod Listing
 pub mod Steps

@@ -1,6 +1,4 @@
--- The lines of a deck's listing, and what putting a text into a lent buffer does.
-pub mod Texts
-pub mod Putting
+-- The lines of a deck's listing, all of it, and step by step.
 pub mod Lines
 pub mod Listing
 pub mod Steps

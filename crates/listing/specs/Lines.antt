@@ -1,10 +1,8 @@
 -- The lines that document 01 ("The deck") prints, each quoted from it.
 use mathlib.Core.List.{List, _++_}
-use Prim.Native.Nat.{ℕ, _+_, _*_}
+use Prim.Native.Nat.{ℕ}
 use Prim.Native.String.{String}
-use Rattle.listing.specs.Texts.{word, decimal}
-use Rattle.octets.specs.Numbers.{pairAt}
-use Rattle.report.specs.Entries.{width}
+use Rattle.texts.specs.Texts.{word, fieldOf}
 use Rattle.report.specs.declared.sink.Entry.{Entry}
 use Rattle.lint.specs.Refusals.{numberOf, sideOf, placeOf}
 use Rattle.lint.specs.declared.refusals.Refusal.{Refusal}
@@ -14,18 +12,6 @@ use Rattle.reader.specs.declared.finding.Loss.{Loss}
 use Rattle.reader.specs.declared.finding.Loss.the-variants.{Short, Unsound, Stray}
 use Rattle.reader.specs.declared.stepping.Record.{Record}
 use Rattle.reader.specs.declared.counting.Counts.{Counts}
-
--- a word, and a number behind it
-abbrev pub fieldOf : String → ℕ → List ℕ
-fieldOf w n = word w ++ decimal n
-
--- entry k of a report, from 0
-unfoldable pub entryOf : List ℕ → ℕ → Entry
-entryOf s k =
-    record {
-      rule = pairAt s (width * k);
-      place = record { start = pairAt s (width * k + 2); len = pairAt s (width * k + 4) };
-    }
 
 -- "  104 at 13 length 3"
 unfoldable pub findingLine : Entry → List ℕ

@@ -2,7 +2,7 @@
 use mathlib.Core.List.{List, [], _++_}
 use mathlib.Core.Path.{_≡_}
 use Prim.Native.Nat.{ℕ, zero, suc, _+_}
-use Rattle.listing.specs.Putting.{Put}
+use Rattle.texts.specs.Putting.{Put}
 use Rattle.listing.specs.Listing.{itemLines}
 use Rattle.listing.specs.declared.steps.Step.{Step}
 use Rattle.reader.specs.Stepping.{itemAt, roomAt, itemBlocks}

@@ -2,7 +2,6 @@
 // at place n of the buffer, as far as the buffer goes, and answers the place behind it.
 mod lines;
 mod steps;
-mod texts;
 
 pub use lines::finding_line;
 pub use lines::item_lines;

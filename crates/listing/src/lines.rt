@@ -1,43 +1,17 @@
 // The lines (document 01, "The deck"), each with the line feed that ends it.
-use crate::texts::field;
-use crate::texts::word;
 use lint::Answer;
 use lint::Refusal;
-use octets::Place;
 use reader::Counts;
 use reader::Item;
 use reader::Loss;
 use reader::Record;
-use report::Entry;
-ghost use mathlib.Core.Path.{_≡_};
-ghost use Rattle.report.specs.Entries.{decode};
-ghost use Rattle.listing.specs.Putting.{Put};
-ghost use Rattle.listing.specs.Lines.{entryOf, findingLine, refusalText, answerText, recordLine, lostLine, totalLine, tooLongLine};
+use report::read_entry;
+use texts::field;
+use texts::word;
+ghost use Rattle.texts.specs.Putting.{Put};
+ghost use Rattle.report.specs.Entries.{entryOf, decode};
+ghost use Rattle.listing.specs.Lines.{findingLine, refusalText, answerText, recordLine, lostLine, totalLine, tooLongLine};
 ghost use Rattle.listing.specs.Listing.{findingLines, recordLines, itemLines};
-
-// The octets of an entry, as `report` writes them.
-const WIDTH: usize = 6;
-
-// Entry k of a report, from 0. Past the end of the report all octets are 0.
-fn read_entry(s: &[u8], k: usize) -> Entry
-    ensures { λ r. ⌜ r ≡ entryOf (now (s .entry)) k ⌝ }
-{
-    if s.len() / WIDTH < k {
-        return Entry {
-            rule: 0,
-            place: Place::NONE,
-        };
-    }
-    let at = WIDTH * k;
-    let place = Place {
-        start: octets::pair(s, at + 2),
-        len: octets::pair(s, at + 4),
-    };
-    Entry {
-        rule: octets::pair(s, at),
-        place: place,
-    }
-}
 
 // The line of entry k of a report, from 0.
 pub fn finding_line(out: &mut [u8], n: usize, report: &[u8], k: usize) -> usize

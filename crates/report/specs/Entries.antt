@@ -1,7 +1,7 @@
 -- "An entry is rule, start, whole length of the element (header included), each two octets, high first" (document 01, "The report").
 use mathlib.Core.List.{List, [], _∷_, _++_}
 use mathlib.Core.Bool.{Bool, true, false}
-use Prim.Native.Nat.{ℕ, zero, suc}
+use Prim.Native.Nat.{ℕ, zero, suc, _+_, _*_}
 use lib.ListN.{drop}
 use Rattle.report.specs.declared.sink.Entry.{Entry}
 use Rattle.octets.specs.Places.{placeFrom}
@@ -20,10 +20,16 @@ unfoldable pub encode : List Entry → List ℕ
 encode [] = []
 encode (e ∷ es) = octetsOf e ++ encode es
 
+-- entry k that octets say, from 0
+unfoldable pub entryOf : List ℕ → ℕ → Entry
+entryOf s k =
+    let at : ℕ = width * k in
+    record { rule = pairAt s at; place = record { start = pairAt s (at + 2); len = pairAt s (at + 4) } }
+
 -- the first n entries that octets say
 unfoldable pub decode : ℕ → List ℕ → List Entry
 decode zero s = []
-decode (suc n) s = record { rule = pairAt s 0; place = record { start = pairAt s 2; len = pairAt s 4 } } ∷ decode n (drop width s)
+decode (suc n) s = entryOf s 0 ∷ decode n (drop width s)
 
 -- an entry, or none, by a test
 unfoldable pub entryIf : Bool → Entry → List Entry

@@ -1,6 +1,8 @@
 // The report: an entry for each finding, one behind the other in lent room.
+mod reading;
 mod sink;
 
+pub use reading::read_entry;
 pub use sink::Entry;
 pub use sink::has_room;
 pub use sink::note;

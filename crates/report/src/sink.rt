@@ -19,7 +19,7 @@ pub struct Entry {
 }
 
 // The octets of an entry.
-const WIDTH: usize = 6;
+pub const WIDTH: usize = 6;
 
 // No count goes further: so many entries pass any room.
 const CAP: usize = 2305843009213693952;

@@ -5,7 +5,7 @@ use Prim.Native.Nat.{_+_, _-_, _*_, _≤_}
 use native.Mathlib.Omega.{arith}
 use lib.ListN.{length}
 use borrow.Author.Needs.{needs}
-use Rattle.listing.proofs.Laws.Putting.{put-inside}
+use Rattle.texts.proofs.Laws.Putting.{put-inside}
 use Rattle.listing.proofs.Laws.Steps.{listed-within, listed-inside}
 use Rattle.decklint.proofs.list_deck.Statement.{statement}
 use Rattle.decklint.proofs.list_deck.Tie as tie

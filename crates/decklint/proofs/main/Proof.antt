@@ -3,7 +3,7 @@ use mathlib.Core.Path.{sym}
 use native.Mathlib.Omega.{arith}
 use lib.Seq.{length-take-le}
 use borrow.Author.Needs.{needs}
-use Rattle.listing.proofs.Laws.Putting.{put-inside}
+use Rattle.texts.proofs.Laws.Putting.{put-inside}
 use Rattle.decklint.proofs.main.Statement.{statement}
 use Rattle.decklint.proofs.main.Tie as tie
 

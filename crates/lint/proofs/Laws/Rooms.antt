@@ -5,41 +5,23 @@
 --     report-room     the report asks nothing of it but its length
 -- Assumes nothing.
 use mathlib.Core.Path.{_≡_, refl, sym, ap, _∙_}
-use mathlib.Core.List.{List, [], _∷_}
+use mathlib.Core.List.{List, []}
 use mathlib.Core.Bool.{Bool, true, false, cond}
-use Prim.Native.Nat.{ℕ, _*_, _≤_}
-use native.Mathlib.Omega.{arith}
+use Prim.Native.Nat.{ℕ, _*_}
 use lib.Dec.{leb}
-use lib.ListN.{length, take, drop, length-append, length-drop}
-use lib.Seq.{take-at}
-use borrow.Author.Tests.{leb-true}
-use Rattle.profiles.specs.declared.fields.Profile.{Profile}
-use Rattle.report.specs.Entries.{width, encode}
-use Rattle.report.specs.Answers.{fits, filled}
-use Rattle.report.specs.declared.sink.Entry.{Entry}
-use Rattle.report.proofs.Laws.Passes.{filled-short, filled-written}
+use lib.ListN.{length}
 use Rattle.lint.specs.Findings.{findings}
 use Rattle.lint.specs.Judging.{judgementOf}
 use Rattle.lint.specs.Answers.{answerTo, answerBy, roomBy, answerOf, roomOf, reportOf}
 use Rattle.lint.specs.declared.refusals.Refusal.the-variants.{NoRoom}
 use Rattle.lint.specs.declared.judging.Judgement.{Judgement}
-use Rattle.lint.specs.declared.judging.Judgement.the-variants as Judgements
 use Rattle.lint.specs.declared.linting.Answer.the-variants.{Report, Refused}
-
-encode-long : (es : List Entry) → length (encode es) ≡ width * length es
-unfolding encode
-encode-long [] = refl
-encode-long (e ∷ es) = omega (arith, encode-long es)
-
--- findings that fit are written over as many octets
-filled-long : (es : List Entry) (room : List ℕ) → length (filled es room) ≡ length room
-filled-long es room = go (fits es room) refl
-  where
-    go : (b : Bool) → fits es room ≡ b → length (filled es room) ≡ length room
-    go true t =
-        let h : width * length es ≤ length room = leb-true _ _ t in
-        ap length (filled-written es room t) ∙ simp (length-append, length-drop, encode-long es) (omega arith)
-    go false f = ap length (filled-short es room f)
+use Rattle.profiles.specs.declared.fields.Profile.{Profile}
+use Rattle.report.specs.Entries.{width, encode}
+use Rattle.report.specs.Answers.{fits, filled}
+use Rattle.report.specs.declared.sink.Entry.{Entry}
+use Rattle.report.proofs.Laws.Passes.{filled-long, filled-report, fits-room}
+use Rattle.lint.specs.declared.judging.Judgement.the-variants as Judgements
 
 module _ (certificate issuer room : List ℕ) where
   answer-by : (j : Judgement) (other : List ℕ) → length room ≡ length other → answerBy j certificate issuer room ≡ answerBy j certificate issuer other
@@ -65,39 +47,37 @@ module _ (certificate issuer room : List ℕ) where
   -- of findings
   report-to : (es : List Entry) → fits es room ≡ true → reportOf (answerTo es room) (filled es room) ≡ encode es
   unfolding answerTo
-  report-to es t =
-      rw t (ap (λ (l : List ℕ). take (width * length es) l) (filled-written es room t) ∙ take-at (encode es)
-      (drop (width * length es) room) (width * length es) (encode-long es))
+  report-to es t = rw t (filled-report es room t)
 
   report-none : (es : List Entry) → fits es room ≡ false → reportOf (answerTo es room) (filled es room) ≡ []
   unfolding answerTo
   report-none es f = rw f
 
-  pub report-is : (p : Profile) (profile : ℕ) → judgementOf certificate issuer profile ≡ Judgements.Accepted p
-      → fits (findings p certificate issuer) room ≡ true
+  pub report-is : (p : Profile) (profile : ℕ)
+      → judgementOf certificate issuer profile ≡ Judgements.Accepted p → fits (findings p certificate issuer) room ≡ true
       → reportOf (answerOf certificate issuer profile room) (roomOf certificate issuer profile room) ≡ encode (findings p certificate issuer)
   unfolding answerOf roomOf
   report-is p profile j t = rw j (report-to (findings p certificate issuer) t)
 
 module _ (certificate issuer room other : List ℕ) (e : length room ≡ length other) where
-  same-fit : (es : List Entry) → fits es other ≡ fits es room
-  same-fit es = ap (λ (n : ℕ). leb (width * length es) n) (sym e)
-
   report-of : (es : List Entry) → reportOf (answerTo es room) (filled es room) ≡ reportOf (answerTo es other) (filled es other)
   report-of es = go (fits es room) refl
     where
+      same : fits es other ≡ fits es room
+      same = sym (fits-room es room other e)
+
       go : (b : Bool) → fits es room ≡ b → reportOf (answerTo es room) (filled es room) ≡ reportOf (answerTo es other) (filled es other)
-      go true t = report-to certificate issuer room es t ∙ sym (report-to certificate issuer other es (same-fit es ∙ t))
-      go false f = report-none certificate issuer room es f ∙ sym (report-none certificate issuer other es (same-fit es ∙ f))
+      go true t = report-to certificate issuer room es t ∙ sym (report-to certificate issuer other es (same ∙ t))
+      go false f = report-none certificate issuer room es f ∙ sym (report-none certificate issuer other es (same ∙ f))
 
   report-by : (j : Judgement)
-      → reportOf (answerBy j certificate issuer room) (roomBy j certificate issuer room) ≡ reportOf (answerBy j certificate issuer other)
-      (roomBy j certificate issuer other)
+      → reportOf (answerBy j certificate issuer room) (roomBy j certificate issuer room)
+      ≡ reportOf (answerBy j certificate issuer other) (roomBy j certificate issuer other)
   report-by (Judgements.Refused r) = refl
   report-by (Judgements.Accepted p) = report-of (findings p certificate issuer)
 
   pub report-room : (profile : ℕ)
-      → reportOf (answerOf certificate issuer profile room) (roomOf certificate issuer profile room) ≡ reportOf
-      (answerOf certificate issuer profile other) (roomOf certificate issuer profile other)
+      → reportOf (answerOf certificate issuer profile room) (roomOf certificate issuer profile room)
+      ≡ reportOf (answerOf certificate issuer profile other) (roomOf certificate issuer profile other)
   unfolding answerOf roomOf
   report-room profile = report-by (judgementOf certificate issuer profile)

@@ -6,27 +6,25 @@
 -- Assumes nothing.
 use mathlib.Core.Path.{_≡_, refl}
 use mathlib.Core.Bool.{Bool, true, false, cond}
-use mathlib.Core.List.{List, _++_}
+use mathlib.Core.List.{List}
 use Prim.Native.Nat.{ℕ, zero, suc, _+_, _*_, _^_, _≤_, _<_}
 use native.Mathlib.Omega.{arith}
-use lib.ListN.{length, drop, length-append}
-use lib.Seq.{getD-drop}
+use lib.ListN.{length, length-append}
 use lib.Dec.{ltb}
-use Rattle.listing.specs.Texts.{word, decimal}
-use Rattle.listing.specs.Lines.{fieldOf, findingLine, refusalText, answerText, recordLine, lostLine, totalLine, tooLongLine}
+use Rattle.listing.specs.Lines.{findingLine, refusalText, answerText, recordLine, lostLine, totalLine, tooLongLine}
 use Rattle.listing.specs.Listing.{findingLines, entriesOf, recordLines, itemLines}
+use Rattle.texts.specs.Texts.{word, decimal}
 use Rattle.octets.specs.Octets.{octetAt}
-use Rattle.octets.specs.Numbers.{pairAt}
-use Rattle.report.specs.Entries.{width, decode}
+use Rattle.report.specs.Entries.{width, entryOf, decode}
 use Rattle.report.specs.declared.sink.Entry.{Entry}
 use Rattle.lint.specs.Refusals.{numberOf, sideNumber, sideOf, placeOf}
-use Rattle.lint.specs.Findings.{findings}
 use Rattle.lint.specs.Answers.{answerOf}
 use Rattle.lint.proofs.Laws.Bounds.{count-fits}
 use Rattle.lint.specs.declared.refusals.Side.{Side}
 use Rattle.lint.specs.declared.refusals.Side.the-variants.{Certificate, Issuer}
 use Rattle.lint.specs.declared.refusals.Refusal.{Refusal}
-use Rattle.lint.specs.declared.refusals.Refusal.the-variants.{CertificateLength, IssuerLength, UnknownProfile, Unsound, Unordered, NotCertificate, NoRoom, NoNumber}
+use Rattle.lint.specs.declared.refusals.Refusal.the-variants.{CertificateLength, IssuerLength, UnknownProfile}
+use Rattle.lint.specs.declared.refusals.Refusal.the-variants.{Unsound, Unordered, NotCertificate, NoRoom, NoNumber}
 use Rattle.lint.specs.declared.linting.Answer.{Answer}
 use Rattle.lint.specs.declared.linting.Answer.the-variants.{Report, Refused}
 use Rattle.reader.specs.declared.finding.Loss.{Loss}
@@ -37,35 +35,28 @@ use Rattle.reader.specs.Stepping.{itemOf, eventAt, itemAt}
 use Rattle.reader.specs.declared.stepping.Record.{Record}
 use Rattle.reader.specs.declared.stepping.Item.{Item}
 use Rattle.reader.specs.declared.counting.Counts.{Counts}
-use Rattle.listing.proofs.Laws.Decimal.{decimal-long}
-use Rattle.listing.proofs.Laws.Entries.{made}
+use Rattle.texts.proofs.Laws.Decimal.{decimal-long, wide-long}
+use Rattle.report.proofs.Laws.Reading.{Small, entry-small, decode-none}
+use Rattle.listing.proofs.Laws.Findings.{findings-next}
 use Rattle.reader.specs.declared.stepping.Item.the-variants as Items
 
--- a field in front of a text
-field-long : (w : List ℕ) (n k : ℕ) (rest : List ℕ) → n < 10 ^ k → 0 < k → length ((w ++ decimal n) ++ rest) ≤ length w + k + length rest
-field-long w n k rest h l = rw (length-append, length-append) (omega (arith, decimal-long n k h l))
-
-pub finding-long : (e : Entry) → e .rule < 65536 → e .place .start < 65536 → e .place .len < 65536 → length (findingLine e) ≤ 30
+pub finding-long : (e : Entry) → Small e → length (findingLine e) ≤ 30
 unfolding findingLine word
-finding-long e r s l =
-    let a = field-long (word " length ") (e .place .len) 5 (word "\n") (omega arith) (omega arith) in
-    let b = field-long (word " at ") (e .place .start) 5 (fieldOf " length " (e .place .len) ++ word "\n") (omega arith) (omega arith) in
-    let c = field-long (word "  ") (e .rule) 5 (fieldOf " at " (e .place .start) ++ (fieldOf " length " (e .place .len) ++ word "\n")) (omega arith) (omega arith) in
-    omega (arith, a, b, c)
+finding-long e k = simp length-append (omega (arith, digits (e .rule) (k .0), digits (e .place .start) (k .1), digits (e .place .len) (k .2)))
+  where
+    digits : (n : ℕ) → n < 65536 → length (decimal n) ≤ 5
+    digits n h = decimal-long n 5 (omega arith) (omega arith)
 
 pub lost-long : (position : ℕ) (loss : Loss) → position < 2 ^ 64 → length (lostLine position loss) ≤ 34
 unfolding lostLine word
-lost-long position Short h = omega (arith, field-long (word "lost ") position 20 (word " short\n") (omega arith) (omega arith))
-lost-long position Unsound h = omega (arith, field-long (word "lost ") position 20 (word " unsound\n") (omega arith) (omega arith))
-lost-long position Stray h = omega (arith, field-long (word "lost ") position 20 (word " stray\n") (omega arith) (omega arith))
+lost-long position Short h = simp length-append (omega (arith, wide-long position h))
+lost-long position Unsound h = simp length-append (omega (arith, wide-long position h))
+lost-long position Stray h = simp length-append (omega (arith, wide-long position h))
 
-pub total-long : (counts : Counts) (blocks : ℕ) → counts .records < 2 ^ 64 → blocks < 2 ^ 64 → counts .lost < 2 ^ 64 → length (totalLine counts blocks) ≤ 83
+pub total-long : (counts : Counts) (blocks : ℕ) → counts .records < 2 ^ 64 → blocks < 2 ^ 64 → counts .lost < 2 ^ 64
+    → length (totalLine counts blocks) ≤ 83
 unfolding totalLine word
-total-long counts blocks r b l =
-    let c = field-long (word " lost ") (counts .lost) 20 (word "\n") (omega arith) (omega arith) in
-    let d = field-long (word " blocks ") blocks 20 (fieldOf " lost " (counts .lost) ++ word "\n") (omega arith) (omega arith) in
-    let e = field-long (word "records ") (counts .records) 20 (fieldOf " blocks " blocks ++ (fieldOf " lost " (counts .lost) ++ word "\n")) (omega arith) (omega arith) in
-    omega (arith, c, d, e)
+total-long counts blocks r b l = simp length-append (omega (arith, wide-long (counts .records) r, wide-long blocks b, wide-long (counts .lost) l))
 
 pub too-long-long : length tooLongLine ≡ 14
 unfolding tooLongLine word
@@ -102,22 +93,19 @@ abbrev pub numberIn : Answer → ℕ
 numberIn (Report count) = count
 numberIn (Refused r) = placeOf r
 
-answer-long : (a : Answer) (rest : List ℕ) → numberIn a < 2 ^ 64 → length (answerText a ++ rest) ≤ 41 + length rest
+answer-long : (a : Answer) → numberIn a < 2 ^ 64 → length (answerText a) ≤ 41
 unfolding refusalText word
-answer-long (Report count) rest h = omega (arith, field-long (word " findings ") count 20 rest (omega arith) (omega arith))
-answer-long (Refused r) rest h =
+answer-long (Report count) h = simp length-append (omega (arith, wide-long count h))
+answer-long (Refused r) h =
     let a = decimal-long (numberOf r) 1 (number-short r) (omega arith) in
     let b = decimal-long (sideOf r) 1 (side-short r) (omega arith) in
-    let c = decimal-long (placeOf r) 20 (omega arith) (omega arith) in
-    simp length-append (omega (arith, a, b, c))
+    simp length-append (omega (arith, a, b, wide-long (placeOf r) h))
 
 pub record-long : (r : Record) → r .number < 2 ^ 64 → r .profile < 256 → numberIn (r .answer) < 2 ^ 64 → length (recordLine r) ≤ 81
 unfolding recordLine word
 record-long r n p h =
-    let a = answer-long (r .answer) (word "\n") h in
-    let b = field-long (word " profile ") (r .profile) 3 (answerText (r .answer) ++ word "\n") (omega arith) (omega arith) in
-    let c = field-long (word "record ") (r .number) 20 (fieldOf " profile " (r .profile) ++ (answerText (r .answer) ++ word "\n")) (omega arith) (omega arith) in
-    omega (arith, a, b, c)
+    let profile = decimal-long (r .profile) 3 (omega arith) (omega arith) in
+    simp length-append (omega (arith, wide-long (r .number) n, profile, answer-long (r .answer) h))
 
 -- ---- all lines of an item
 
@@ -125,17 +113,12 @@ record-long r n p h =
 abbrev Octets : List ℕ → Type 0
 Octets s = (i : ℕ) → octetAt s i < 256
 
-pair-small : (s : List ℕ) → Octets s → (i : ℕ) → pairAt s i < 65536
-pair-small s o i = omega (arith, o i, o (i + 1))
-
 pub findings-long : (k : ℕ) (s : List ℕ) → Octets s → length (findingLines (decode k s)) ≤ 30 * k
-unfolding findingLines decode
-findings-long zero s o = omega arith
+unfolding findingLines
+findings-long zero s o = rw (decode-none s) (omega arith)
 findings-long (suc k) s o =
-    let first = made (pairAt s 0) (pairAt s 2) (pairAt s 4) in
-    let one = finding-long first (pair-small s o 0) (pair-small s o 2) (pair-small s o 4) in
-    let later = findings-long k (drop width s) (λ (i : ℕ). rw (getD-drop width s i 0) (o (width + i))) in
-    rw (length-append (findingLine first) (findingLines (decode k (drop width s)))) (omega (arith, one, later))
+    let one = finding-long (entryOf s k) (entry-small s o k) in
+    rw (findings-next s k, length-append (findingLines (decode k s)) (findingLine (entryOf s k))) (omega (arith, one, findings-long k s o))
 
 -- how many findings an answer counts, and an item
 abbrev pub countOf : Answer → ℕ
@@ -158,7 +141,8 @@ unfolding findingLines
 entries-long (Report count) s o = findings-long count s o
 entries-long (Refused r) s o = omega arith
 
-pub item-long : (position : ℕ) (item : Item) (s : List ℕ) → position < 2 ^ 64 → Held item → Octets s → length (itemLines position item s) ≤ 81 + 30 * countIn item
+pub item-long : (position : ℕ) (item : Item) (s : List ℕ) → position < 2 ^ 64 → Held item → Octets s
+    → length (itemLines position item s) ≤ 81 + 30 * countIn item
 unfolding recordLines
 item-long position (Items.Record r) s h k o =
     let line = record-long r (k .0) (k .1) (k .2) in
@@ -188,5 +172,6 @@ item-fits deck position room = go (ltb (512 * position) (length deck))
     go true = event-fits room (eventAt deck position)
     go false = omega arith
 
-pub item-whole : (deck : List ℕ) (position : ℕ) (room s : List ℕ) → length room ≤ 65536 → position < 2 ^ 64 → Held (itemAt deck position room) → Octets s → length (itemLines position (itemAt deck position room) s) ≤ 327741
+pub item-whole : (deck : List ℕ) (position : ℕ) (room s : List ℕ) → length room ≤ 65536 → position < 2 ^ 64
+    → Held (itemAt deck position room) → Octets s → length (itemLines position (itemAt deck position room) s) ≤ 327741
 item-whole deck position room s h l k o = omega (arith, item-long position (itemAt deck position room) s l k o, item-fits deck position room)

@@ -28,7 +28,7 @@ use Rattle.reader.specs.Counting.{tallyOf}
 use Rattle.reader.specs.Walking.{Handed, reportIn, allHandedOver}
 use Rattle.reader.specs.declared.stepping.Item.{Item}
 use Rattle.reader.proofs.Laws.Walking.{same-handed}
-use Rattle.listing.proofs.Laws.Entries.{decode-take}
+use Rattle.report.proofs.Laws.Reading.{decode-take}
 use Rattle.reader.specs.declared.stepping.Item.the-variants as Items
 
 entries-room : (a : Answer) (room : List ℕ) → entriesOf a (reportOf a room) ≡ entriesOf a room
@@ -49,7 +49,8 @@ all-handed room other h (e ∷ es) = ap₂ (λ (x : Handed) (xs : List Handed). 
 
 pub listing-room : (deck room other : List ℕ) → length room ≡ length other → listingOf deck room ≡ listingOf deck other
 unfolding listingOf
-listing-room deck room other h = ap (λ (hs : List Handed). linesOf hs ++ totalLine (tallyOf deck) (length (blocks deck))) (all-handed room other h (events deck))
+listing-room deck room other h =
+    ap (λ (hs : List Handed). linesOf hs ++ totalLine (tallyOf deck) (length (blocks deck))) (all-handed room other h (events deck))
 
 pub printed-listing : (deck room : List ℕ) → length deck ≤ 65536 → length room ≡ 65536 → printed deck ≡ listingOf deck room
 unfolding printed
@@ -61,7 +62,8 @@ printed-too-long deck h = rw (lt-leb (length deck) 65536 h)
 
 -- ---- a record's findings
 
-module _ (p : Profile) (certificate issuer room : List ℕ) (profile : ℕ) (j : judgementOf certificate issuer profile ≡ Accepted p) (f : fits (findings p certificate issuer) room ≡ true) where
+module _ (p : Profile) (certificate issuer room : List ℕ) (profile : ℕ)
+    (j : judgementOf certificate issuer profile ≡ Accepted p) (f : fits (findings p certificate issuer) room ≡ true) where
   pub found-entries : entriesOf (answerOf certificate issuer profile room) (roomOf certificate issuer profile room) ≡ findings p certificate issuer
   unfolding answerOf roomOf answerTo
   found-entries = rw (j, f) (findings-back p certificate issuer profile room j f)

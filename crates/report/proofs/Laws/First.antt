@@ -16,6 +16,7 @@ use native.Mathlib.Nat.{le-refl}
 use native.Mathlib.Omega.{arith}
 use lib.Dec.{leb}
 use borrow.Author.Tests.{le-leb, lt-leb}
+use Rattle.report.specs.declared.sink.Entry.{Entry}
 use Rattle.report.specs.Entries.{entryAt, entryIf, noted}
 use Rattle.report.specs.Forms.{filter, each, further, one, firstOf, isEmpty, isBehind, noneOf}
 use Rattle.report.specs.Order.{In, Apart, Between}
@@ -60,12 +61,14 @@ module _ (isX : Head → Bool) (end : ℕ) where
   first-done s at to l = rw (children-done s at to l, first-none)
 
   -- the first list ends at mid
-  first-join : {gs : List Head} (mid : ℕ) (hs : List Head) → Apart gs → firstOf isX end (gs ++ hs) ≡ cond (isEmpty (firstOf isX mid gs)) (firstOf isX end hs) (firstOf isX mid gs)
+  first-join : {gs : List Head} (mid : ℕ) (hs : List Head) → Apart gs
+      → firstOf isX end (gs ++ hs) ≡ cond (isEmpty (firstOf isX mid gs)) (firstOf isX end hs) (firstOf isX mid gs)
   unfolding firstOf
   first-join mid hs no-items = rw (le-leb mid mid (le-refl mid))
   first-join mid hs (more-items {h = h} {hs = gs} l f r) = go (isX h) (first-join mid hs r)
     where
-      go : (t : Bool) → firstOf isX end (gs ++ hs) ≡ cond (isEmpty (firstOf isX mid gs)) (firstOf isX end hs) (firstOf isX mid gs) → cond t h (firstOf isX end (gs ++ hs)) ≡ cond (isEmpty (cond t h (firstOf isX mid gs))) (firstOf isX end hs) (cond t h (firstOf isX mid gs))
+      go : (t : Bool) → firstOf isX end (gs ++ hs) ≡ cond (isEmpty (firstOf isX mid gs)) (firstOf isX end hs) (firstOf isX mid gs)
+          → cond t h (firstOf isX end (gs ++ hs)) ≡ cond (isEmpty (cond t h (firstOf isX mid gs))) (firstOf isX end hs) (cond t h (firstOf isX mid gs))
       go true ih = rw (lt-leb (h .end) (h .at) l)
       go false ih = ih
 
@@ -78,12 +81,14 @@ module _ (isX : Head → Bool) (end : ℕ) where
       go true ih = lt-leb (h .end) (h .at) l
       go false ih = ih
 
-  pub first-inside : (from to : ℕ) (hs : List Head) → end ≤ to → Between from to hs → (firstOf isX end hs .at ≤ firstOf isX end hs .end) × (firstOf isX end hs .end ≤ to)
+  pub first-inside : (from to : ℕ) (hs : List Head) → end ≤ to → Between from to hs
+      → (firstOf isX end hs .at ≤ firstOf isX end hs .end) × (firstOf isX end hs .end ≤ to)
   unfolding firstOf
   first-inside from to [] l f = (le-refl end, l)
   first-inside from to (h ∷ hs) l f = go (isX h) (first-inside from to hs l (λ g m. f g (List·Memᴰ·tail m)))
     where
-      go : (t : Bool) → (firstOf isX end hs .at ≤ firstOf isX end hs .end) × (firstOf isX end hs .end ≤ to) → (cond t h (firstOf isX end hs) .at ≤ cond t h (firstOf isX end hs) .end) × (cond t h (firstOf isX end hs) .end ≤ to)
+      go : (t : Bool) → (firstOf isX end hs .at ≤ firstOf isX end hs .end) × (firstOf isX end hs .end ≤ to)
+          → (cond t h (firstOf isX end hs) .at ≤ cond t h (firstOf isX end hs) .end) × (cond t h (firstOf isX end hs) .end ≤ to)
       go true r = let b = f h (List·Memᴰ·head refl) in (omega arith, b .2)
       go false r = r
 
@@ -97,23 +102,32 @@ module _ (isX : Head → Bool) (end : ℕ) where
 -- ---- "one X"
 
 module _ (rule : ℕ) (isX : Head → Bool) (name : Head) where
+  -- an entry at the name if `first` is empty, and at each X behind it
+  abbrev by-first : Head → List Head → List Entry
+  by-first first hs = noted rule (isEmpty first) name ++ each rule (isBehind isX (first .end)) hs
+
   -- h is the first X
-  found : (h : Head) (hs : List Head) → h .at < h .end → ((g : Head) → In g hs → h .end ≤ g .at) → isX h ≡ true → one rule isX name (h ∷ hs) ≡ noted rule (isEmpty h) name ++ each rule (isBehind isX (h .end)) (h ∷ hs)
+  found : (h : Head) (hs : List Head) → h .at < h .end → ((g : Head) → In g hs → h .end ≤ g .at) → isX h ≡ true
+      → one rule isX name (h ∷ hs) ≡ by-first h (h ∷ hs)
   unfolding filter each further entryIf
   found h hs l f t =
       rw (t, lt-leb (h .end) (h .at) l)
-      (ap (map (entryAt rule)) (filter-same isX (isBehind isX (h .end)) hs (λ g m. and-true (isX g) (leb (h .end) (g .at)) (le-leb (h .end) (g .at) (f g m)))))
+      (ap (map (entryAt rule))
+      (filter-same isX (isBehind isX (h .end)) hs (λ g m. and-true (isX g) (leb (h .end) (g .at)) (le-leb (h .end) (g .at) (f g m)))))
 
   -- h is no X
-  passed : (h first : Head) (hs : List Head) → isX h ≡ false → one rule isX name hs ≡ noted rule (isEmpty first) name ++ each rule (isBehind isX (first .end)) hs → one rule isX name (h ∷ hs) ≡ noted rule (isEmpty first) name ++ each rule (isBehind isX (first .end)) (h ∷ hs)
+  passed : (h first : Head) (hs : List Head) → isX h ≡ false
+      → one rule isX name hs ≡ by-first first hs → one rule isX name (h ∷ hs) ≡ by-first first (h ∷ hs)
   unfolding filter each
   passed h first hs t e = rw t e
 
-  pub one-by-first : {hs : List Head} (end : ℕ) → Apart hs → one rule isX name hs ≡ noted rule (isEmpty (firstOf isX end hs)) name ++ each rule (isBehind isX (firstOf isX end hs .end)) hs
+  pub one-by-first : {hs : List Head} (end : ℕ) → Apart hs
+      → one rule isX name hs ≡ noted rule (isEmpty (firstOf isX end hs)) name ++ each rule (isBehind isX (firstOf isX end hs .end)) hs
   unfolding firstOf filter each further entryIf
   one-by-first end no-items = rw (le-leb end end (le-refl end))
   one-by-first end (more-items {h = h} {hs = hs} l f r) = go (isX h) refl (one-by-first end r)
     where
-      go : (t : Bool) → isX h ≡ t → one rule isX name hs ≡ noted rule (isEmpty (firstOf isX end hs)) name ++ each rule (isBehind isX (firstOf isX end hs .end)) hs → one rule isX name (h ∷ hs) ≡ noted rule (isEmpty (cond t h (firstOf isX end hs))) name ++ each rule (isBehind isX (cond t h (firstOf isX end hs) .end)) (h ∷ hs)
+      go : (t : Bool) → isX h ≡ t → one rule isX name hs ≡ by-first (firstOf isX end hs) hs
+          → one rule isX name (h ∷ hs) ≡ by-first (cond t h (firstOf isX end hs)) (h ∷ hs)
       go true e ih = found h hs l f e
       go false e ih = passed h (firstOf isX end hs) hs e ih

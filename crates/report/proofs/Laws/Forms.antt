@@ -34,10 +34,13 @@ module _ (rule : ℕ) (bad : Head → Bool) where
       rw (each-next g (gs ++ hs), each-next g gs, each-join gs hs, append-assoc (noted rule (bad g) g) (each rule bad gs) (each rule bad hs))
 
   -- b is what the test says of h, the next element
-  pub each-turn : {n m n₀ : ℕ} {room last room₀ : List ℕ} {all : List Entry} (s : List ℕ) (at end : ℕ) (h : Head) (b : Bool) → at < end → h ≡ headOf s at end → b ≡ bad h → Rest (each rule bad (childrenOf s at end)) n room all n₀ room₀ → Put (noted rule b h) n room m last → Rest (each rule bad (childrenOf s (h .end) end)) m last all n₀ room₀
+  pub each-turn : {n m n₀ : ℕ} {room last room₀ : List ℕ} {all : List Entry} (s : List ℕ) (at end : ℕ) (h : Head) (b : Bool) → at < end
+      → h ≡ headOf s at end → b ≡ bad h → Rest (each rule bad (childrenOf s at end)) n room all n₀ room₀
+      → Put (noted rule b h) n room m last → Rest (each rule bad (childrenOf s (h .end) end)) m last all n₀ room₀
   each-turn {n} {m} {n₀} {room} {last} {room₀} {all} s at end h b l e t rest p =
       let put : Put (noted rule (bad h) h) n room m last = subst (λ (x : Bool). Put (noted rule x h) n room m last) t p in
       rest-step (rw (children-next s at end l, ← e, each-next h (childrenOf s (h .end) end)) at rest) put
 
-  pub each-end : {n n₀ : ℕ} {room room₀ : List ℕ} {all : List Entry} (s : List ℕ) (at end : ℕ) → end ≤ at → Rest (each rule bad (childrenOf s at end)) n room all n₀ room₀ → Put all n₀ room₀ n room
+  pub each-end : {n n₀ : ℕ} {room room₀ : List ℕ} {all : List Entry} (s : List ℕ) (at end : ℕ) → end ≤ at
+      → Rest (each rule bad (childrenOf s at end)) n room all n₀ room₀ → Put all n₀ room₀ n room
   each-end s at end l rest = rest-end (rw (children-done s at end l, each-none) at rest)

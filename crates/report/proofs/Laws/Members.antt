@@ -10,7 +10,8 @@
 --     filter-in, map-in, from-map      items that a test picks; entries at items
 -- Assumes nothing.
 use mathlib.Core.Path.{_≡_, refl, sym, ap, subst, _∙_}
-use mathlib.Core.List.{List, [], _∷_, _++_, map, List·Memᴰ·not-nil, List·Memᴰ·cases-cons, List·Memᴰ·append-cases, Memᴰ·append-left, Memᴰ·append-right, List·Memᴰ·eq-of-singleton}
+use mathlib.Core.List.{List, [], _∷_, _++_, map, List·Memᴰ·not-nil, List·Memᴰ·cases-cons, List·Memᴰ·append-cases}
+use mathlib.Core.List.{Memᴰ·append-left, Memᴰ·append-right, List·Memᴰ·eq-of-singleton}
 use mathlib.Core.List.List·Memᴰ.{List·Memᴰ·head, List·Memᴰ·tail}
 use mathlib.Core.Logic.{_↔_, _⊎_, inl, inr, ⊎-elim}
 use mathlib.Core.Bool.{Bool, true, false, cond, not, false≢true}
@@ -60,8 +61,12 @@ module _ (test : Head → Bool) where
   picked [] m = absurd (List·Memᴰ·not-nil m)
   picked {g} (h ∷ hs) m = go (picked hs) (test h) refl m
     where
-      go : (In g (filter test hs) → In g hs × (test g ≡ true)) → (b : Bool) → test h ≡ b → In g (cond b (h ∷ filter test hs) (filter test hs)) → In g (h ∷ hs) × (test g ≡ true)
-      go ih true t k = ⊎-elim (λ (e : g ≡ h). (List·Memᴰ·head e, ap test e ∙ t)) (λ (r : In g (filter test hs)). (List·Memᴰ·tail (ih r .0), ih r .1)) (List·Memᴰ·cases-cons k)
+      go : (In g (filter test hs) → In g hs × (test g ≡ true)) → (b : Bool) → test h ≡ b
+          → In g (cond b (h ∷ filter test hs) (filter test hs)) → In g (h ∷ hs) × (test g ≡ true)
+      go ih true t k =
+          ⊎-elim (λ (e : g ≡ h). (List·Memᴰ·head e, ap test e ∙ t))
+          (λ (r : In g (filter test hs)). (List·Memᴰ·tail (ih r .0), ih r .1))
+          (List·Memᴰ·cases-cons k)
       go ih false t k = (List·Memᴰ·tail (ih k .0), ih k .1)
 
   pick : {g : Head} {hs : List Head} → In g hs → test g ≡ true → In g (filter test hs)
@@ -104,7 +109,8 @@ module _ (rule : ℕ) where
   from-map [] m = absurd (List·Memᴰ·not-nil m)
   from-map {e} (h ∷ hs) m = go (from-map hs) (List·Memᴰ·cases-cons m)
     where
-      go : (In e (map (entryAt rule) hs) → (g : Head) × In g hs × (e ≡ entryAt rule g)) → (e ≡ entryAt rule h) ⊎ In e (map (entryAt rule) hs) → (g : Head) × In g (h ∷ hs) × (e ≡ entryAt rule g)
+      go : (In e (map (entryAt rule) hs) → (g : Head) × In g hs × (e ≡ entryAt rule g))
+          → (e ≡ entryAt rule h) ⊎ In e (map (entryAt rule) hs) → (g : Head) × In g (h ∷ hs) × (e ≡ entryAt rule g)
       go ih (inl q) = (h, List·Memᴰ·head refl, q)
       go ih (inr r) = let p = ih r in (p .0, List·Memᴰ·tail (p .1), p .2)
 
@@ -139,7 +145,9 @@ module _ (rule : ℕ) (isX : Head → Bool) (name : Head) where
       behind : {h : Head} → isX x ≡ false → ((g : Head) → In g xs → isX g ≡ false) → In h (x ∷ xs) → isX h ≡ false
       behind {h} t f m = ⊎-elim (λ (q : h ≡ x). ap isX q ∙ t) (f h) (List·Memᴰ·cases-cons m)
 
-      go : (In e (one rule isX name xs) → Missing rule isX name xs e ⊎ Repeated rule isX xs e) → (b : Bool) → isX x ≡ b → In e (further rule name (cond b (x ∷ filter isX xs) (filter isX xs))) → Missing rule isX name (x ∷ xs) e ⊎ Repeated rule isX (x ∷ xs) e
+      go : (In e (one rule isX name xs) → Missing rule isX name xs e ⊎ Repeated rule isX xs e) → (b : Bool) → isX x ≡ b
+          → In e (further rule name (cond b (x ∷ filter isX xs) (filter isX xs)))
+          → Missing rule isX name (x ∷ xs) e ⊎ Repeated rule isX (x ∷ xs) e
       go ih true t k =
           let p = from-map rule (filter isX xs) k in
           let q = picked isX xs (p .1) in

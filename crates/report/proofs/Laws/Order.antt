@@ -187,13 +187,18 @@ module _ (rule to : ℕ) (l : rule < to) where
 
   pub each-ordered : {hs : List Head} (bad : Head → Bool) → Apart hs → Ordered rule to (each rule bad hs)
   unfolding each
-  each-ordered {hs} bad a = of-rule rule to l (λ e m. let p = each-in rule bad hs e .0 m in ruled rule (p .item) e (p .entry)) (rising-items rule (apart-filter bad a))
+  each-ordered {hs} bad a =
+      of-rule rule to l (λ e m. let p = each-in rule bad hs e .0 m in ruled rule (p .item) e (p .entry))
+      (rising-items rule (apart-filter bad a))
 
   pub one-ordered : {hs : List Head} (isX : Head → Bool) (name : Head) → Apart hs → Ordered rule to (one rule isX name hs)
   one-ordered {hs} isX name a = of-rule rule to l of (rising-further rule name (apart-filter isX a))
     where
       of : (e : Entry) → In e (one rule isX name hs) → e .rule ≡ rule
-      of e m = ⊎-elim (λ (p : Missing rule isX name hs e). ruled rule name e (p .entry)) (λ (p : Repeated rule isX hs e). ruled rule (p .item) e (p .entry)) (one-in rule isX name hs e .0 m)
+      of e m =
+          ⊎-elim (λ (p : Missing rule isX name hs e). ruled rule name e (p .entry))
+          (λ (p : Repeated rule isX hs e). ruled rule (p .item) e (p .entry))
+          (one-in rule isX name hs e .0 m)
 
 -- ---- the forms of rules: bounds
 
@@ -219,7 +224,8 @@ module _ (limit rule : ℕ) where
       let k = f (p .item) (p .among) in
       at-item limit rule (p .item) e (omega arith) (k .2) (p .entry)
 
-  pub one-inside : {hs : List Head} (from : ℕ) (isX : Head → Bool) (name : Head) → name .at ≤ name .end → name .end ≤ limit → Between from limit hs → Inside (one rule isX name hs) limit
+  pub one-inside : {hs : List Head} (from : ℕ) (isX : Head → Bool) (name : Head) → name .at ≤ name .end → name .end ≤ limit
+      → Between from limit hs → Inside (one rule isX name hs) limit
   one-inside {hs} from isX name l k f e m = ⊎-elim missing repeated (one-in rule isX name hs e .0 m)
     where
       missing : Missing rule isX name hs e → e .place .start + e .place .len ≤ limit

@@ -3,7 +3,9 @@
 --     pass-written       what both show where it does
 --     pass-none          what the first shows where it counts nothing: there is nothing to write
 --     filled-short, filled-written      the room at the end
---     entry-back, read-back     the entries that are written, read back
+--     encode-long, filled-long          how long the entries' octets are, and that the room keeps its length
+--     filled-report      the report in the room is the entries' octets, where they fit
+--     fits-room          whether they fit asks nothing of the room but its length
 -- Assumes nothing.
 use mathlib.Core.Path.{_≡_, refl, sym, ap, _∙_}
 use mathlib.Core.List.{List, [], _∷_, _++_, append-assoc, append-nil}
@@ -64,14 +66,16 @@ ticks : (n : ℕ) → n < cap → tick n ≡ n + 1
 unfolding tick
 ticks n h = rw (lt-ltb n cap h)
 
-one-written : (n : ℕ) (room : List ℕ) (e : Entry) → width * n + width ≤ length room → putOne e n room ≡ take (width * n) room ++ octetsOf e ++ drop (width * n + width) room
+one-written : (n : ℕ) (room : List ℕ) (e : Entry) → width * n + width ≤ length room
+    → putOne e n room ≡ take (width * n) room ++ octetsOf e ++ drop (width * n + width) room
 unfolding putOne
 one-written n room e h = rw (le-leb (width * n + width) (length room) h) (sets-eq (octetsOf e) room (width * n) h)
 
 seam : (p q x : List ℕ) (j m : ℕ) → length p ≡ j → take j (p ++ q) ++ x ++ drop (j + m) (p ++ q) ≡ p ++ x ++ drop m q
 seam p q x j m e = rw (take-at p q j e, ← e, drop-append-add p q m)
 
-all-written : (es : List Entry) (n : ℕ) (room : List ℕ) → width * (n + length es) ≤ length room → length room < 2 ^ 63 → putAll es n room ≡ take (width * n) room ++ encode es ++ drop (width * (n + length es)) room
+all-written : (es : List Entry) (n : ℕ) (room : List ℕ) → width * (n + length es) ≤ length room → length room < 2 ^ 63
+    → putAll es n room ≡ take (width * n) room ++ encode es ++ drop (width * (n + length es)) room
 unfolding putAll encode
 all-written [] n room h k = simp (append-nil, add-zero, take-append-drop)
 all-written (e ∷ es) n room h k =
@@ -90,7 +94,7 @@ all-written (e ∷ es) n room h k =
     (seam before behind (encode es) (width * n + width) (width * length es) lp
     ∙ simp (drop-drop, append-assoc)))
 
--- ---- the two passes
+-- ---- the room at the end
 
 pub filled-short : (es : List Entry) (room : List ℕ) → fits es room ≡ false → filled es room ≡ room
 unfolding filled
@@ -100,8 +104,33 @@ pub filled-written : (es : List Entry) (room : List ℕ) → fits es room ≡ tr
 unfolding filled
 filled-written es room f = rw f
 
+pub encode-long : (es : List Entry) → length (encode es) ≡ width * length es
+unfolding encode
+encode-long [] = refl
+encode-long (e ∷ es) = omega (arith, encode-long es)
+
+pub filled-long : (es : List Entry) (room : List ℕ) → length (filled es room) ≡ length room
+filled-long es room = go (fits es room) refl
+  where
+    go : (b : Bool) → fits es room ≡ b → length (filled es room) ≡ length room
+    go true t =
+        let h : width * length es ≤ length room = leb-true _ _ t in
+        ap length (filled-written es room t) ∙ simp (length-append, length-drop, encode-long es) (omega arith)
+    go false f = ap length (filled-short es room f)
+
+pub filled-report : (es : List Entry) (room : List ℕ) → fits es room ≡ true → take (width * length es) (filled es room) ≡ encode es
+filled-report es room t =
+    let n : ℕ = width * length es in
+    ap (λ (l : List ℕ). take n l) (filled-written es room t) ∙ take-at (encode es) (drop n room) n (encode-long es)
+
+pub fits-room : (es : List Entry) (room other : List ℕ) → length room ≡ length other → fits es room ≡ fits es other
+fits-room es room other e = ap (λ (n : ℕ). leb (width * length es) n) e
+
+-- ---- the two passes
+
 -- the first pass, over no room, counts n and leaves `left`, which is empty; `fit` is whether n entries fit the room
-module _ (es : List Entry) (room : List ℕ) {n : ℕ} {left : List ℕ} {fit : Bool} (p : Put es 0 [] n left) (t : fit ≡ leb (width * n) (length (left ++ room))) where
+module _ (es : List Entry) (room : List ℕ) {n : ℕ} {left : List ℕ} {fit : Bool}
+    (p : Put es 0 [] n left) (t : fit ≡ leb (width * n) (length (left ++ room))) where
   same-room : left ++ room ≡ room
   same-room = rw (p .bytes ∙ none-written es 0)
 
@@ -125,7 +154,9 @@ module _ (es : List Entry) (room : List ℕ) {n : ℕ} {left : List ℕ} {fit : 
       record {
         enough = enough;
         count = c ∙ e;
-        bytes = q .bytes ∙ ap (putAll es 0) same-room ∙ all-written es 0 room (omega arith) small ∙ (rw (zero-add (length es)) (sym (filled-written es room enough)));
+        bytes =
+            q .bytes ∙ ap (putAll es 0) same-room ∙ all-written es 0 room (omega arith) small
+            ∙ (rw (zero-add (length es)) (sym (filled-written es room enough)));
       }
 
   pub pass-none : fit ≡ true → length room < 2 ^ 63 → n ≤ 0 → Written es room n (left ++ room)

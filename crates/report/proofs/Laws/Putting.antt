@@ -49,7 +49,9 @@ sets-behind (x ∷ xs) ys room i =
 
 module _ (e : Entry) (n : ℕ) (room : List ℕ) where
   -- a, b and last are the room after each of the three pairs
-  pub put-in : (a b last : List ℕ) → n < length room / width → length room < 2 ^ 63 → a ≡ sets room (width * n) (pairOf (e .rule)) → b ≡ sets a (width * n + 2) (pairOf (e .place .start)) → last ≡ sets b (width * n + 4) (pairOf (e .place .len)) → Put (e ∷ []) n room (n + 1) last
+  pub put-in : (a b last : List ℕ) → n < length room / width → length room < 2 ^ 63 → a ≡ sets room (width * n) (pairOf (e .rule))
+      → b ≡ sets a (width * n + 2) (pairOf (e .place .start)) → last ≡ sets b (width * n + 4) (pairOf (e .place .len))
+      → Put (e ∷ []) n room (n + 1) last
   unfolding counted putAll putOne
   put-in a b last h k p q r =
       let l : width * n + width ≤ length room = omega arith in
@@ -88,7 +90,8 @@ pub put-unjudged : (es : List Entry) (n : ℕ) (room : List ℕ) (judged : Bool)
 put-unjudged es n room judged t = rw t (nothing n room)
 
 -- the place is the element's
-pub put-noted : {n r : ℕ} {room last : List ℕ} (rule : ℕ) (bad : Bool) (h : Head) (place : Place) → place ≡ placeFrom (h .at) (h .end) → Put (entryIf bad (record { rule = rule; place = place })) n room r last → Put (noted rule bad h) n room r last
+pub put-noted : {n r : ℕ} {room last : List ℕ} (rule : ℕ) (bad : Bool) (h : Head) (place : Place) → place ≡ placeFrom (h .at) (h .end)
+    → Put (entryIf bad (record { rule = rule; place = place })) n room r last → Put (noted rule bad h) n room r last
 put-noted {n} {r} {room} {last} rule bad h place e p =
     subst (λ (q : Place). Put (entryIf bad (record { rule = rule; place = q })) n room r last) e p
 
@@ -144,7 +147,8 @@ module _ (lists : List (List Entry)) (k : ℕ) where
   unfolding joined
   next-list h = rw (drop-cons lists k [] h, add-one k)
 
-  pub table-turn : {n m n₀ : ℕ} {a b a₀ : List ℕ} {all : List Entry} → k < length lists → Rest (joined (drop k lists)) n a all n₀ a₀ → Put (getD lists k []) n a m b → Rest (joined (drop (k + 1) lists)) m b all n₀ a₀
+  pub table-turn : {n m n₀ : ℕ} {a b a₀ : List ℕ} {all : List Entry} → k < length lists → Rest (joined (drop k lists)) n a all n₀ a₀
+      → Put (getD lists k []) n a m b → Rest (joined (drop (k + 1) lists)) m b all n₀ a₀
   table-turn h rest p = rest-step (rw (next-list h) at rest) p
 
   pub table-end : {n n₀ : ℕ} {a a₀ : List ℕ} {all : List Entry} → length lists ≤ k → Rest (joined (drop k lists)) n a all n₀ a₀ → Put all n₀ a₀ n a

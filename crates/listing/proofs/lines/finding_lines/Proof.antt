@@ -4,10 +4,10 @@ use Prim.Native.Nat.{_-_, _≤_}
 use native.Mathlib.Omega.{arith}
 use lib.ListN.{length}
 use borrow.Author.Needs.{needs}
-use Rattle.listing.specs.Putting.{Put}
+use Rattle.texts.specs.Putting.{Put}
 use Rattle.listing.specs.Listing.{findingLines}
 use Rattle.report.specs.Entries.{decode}
-use Rattle.listing.proofs.Laws.Entries.{no-findings, one-finding, all-findings}
+use Rattle.listing.proofs.Laws.Findings.{no-findings, one-finding, all-findings}
 use Rattle.listing.proofs.lines.finding_lines.Statement.{statement}
 use Rattle.listing.proofs.lines.finding_lines.Tie as tie
 
@@ -19,12 +19,6 @@ abbrev μ-loop : tie.MeasureT-loop
 
 loop-holds : tie.Need-loop-holds Inv-loop μ-loop
 loop-holds c = (refl, omega arith, no-findings _ _ _)
-
-finding-line-requires : tie.Need-finding-line-requires Inv-loop μ-loop
-finding-line-requires c κs = search needs
-
-add-k : tie.Need-add-k Inv-loop μ-loop
-add-k c = search needs
 
 loop-less : tie.Need-loop-less Inv-loop μ-loop
 loop-less c = omega arith
@@ -49,8 +43,8 @@ finding-lines-spec =
     Inv-loop
     μ-loop
     loop-holds
-    finding-line-requires
-    add-k
+    (λ c κs. search needs)
+    (λ c. search needs)
     loop-less
     loop-again
     same-length

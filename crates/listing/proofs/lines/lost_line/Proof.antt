@@ -1,83 +1,47 @@
 -- `listing::lines::lost_line` meets its contract. Assumes nothing.
 use borrow.Author.Needs.{needs}
-use Rattle.listing.specs.Texts.{word}
+use Rattle.texts.specs.Texts.{word}
 use Rattle.listing.specs.Lines.{lostLine}
-use Rattle.listing.proofs.Laws.Putting.{_⨾_}
+use Rattle.texts.proofs.Laws.Putting.{_⨾_}
 use Rattle.listing.proofs.lines.lost_line.Statement.{statement}
 use Rattle.listing.proofs.lines.lost_line.Tie as tie
 
-slice-aggregate-field : tie.Need-slice-aggregate-field
-slice-aggregate-field c = search needs
-
-field-requires : tie.Need-field-requires
-field-requires c κs = search needs
-
-enum-told : tie.Need-enum-told
-enum-told c = search needs
-
-slice-aggregate-word : tie.Need-slice-aggregate-word
-slice-aggregate-word c = search needs
-
-word-requires : tie.Need-word-requires
-word-requires c κs = search needs
-
-enum-told-2 : tie.Need-enum-told-2
-enum-told-2 c = search needs
-
-slice-aggregate-word-2 : tie.Need-slice-aggregate-word-2
-slice-aggregate-word-2 c = search needs
-
-word-requires-2 : tie.Need-word-requires-2
-word-requires-2 c κs = search needs
-
-enum-told-3 : tie.Need-enum-told-3
-enum-told-3 c = search needs
-
-slice-aggregate-word-3 : tie.Need-slice-aggregate-word-3
-slice-aggregate-word-3 c = search needs
-
-word-requires-3 : tie.Need-word-requires-3
-word-requires-3 c κs = search needs
-
-same-length : tie.Need-same-length
-same-length c = search needs
-
 returns : tie.Need-returns
 unfolding lostLine word
-returns c = let told = c .before .before .before .before .before in rw (told .enum-told .given .1) (told .before .before .before .before .field .ensures ⨾ c .before .before .word .ensures)
-
-same-length-2 : tie.Need-same-length-2
-same-length-2 c = search needs
+returns c =
+    let told = c .before .before .before .before .before in
+    rw (told .enum-told .given .1) (told .before .before .before .before .field .ensures ⨾ c .before .before .word .ensures)
 
 returns-2 : tie.Need-returns-2
 unfolding lostLine word
-returns-2 c = let told = c .before .before .before .before .before in rw (told .enum-told2 .given .1) (told .before .before .before .before .field .ensures ⨾ c .before .before .word2 .ensures)
-
-same-length-3 : tie.Need-same-length-3
-same-length-3 c = search needs
+returns-2 c =
+    let told = c .before .before .before .before .before in
+    rw (told .enum-told2 .given .1) (told .before .before .before .before .field .ensures ⨾ c .before .before .word2 .ensures)
 
 returns-3 : tie.Need-returns-3
 unfolding lostLine word
-returns-3 c = let told = c .before .before .before .before .before in rw (told .enum-told3 .given .1) (told .before .before .before .before .field .ensures ⨾ c .before .before .word3 .ensures)
+returns-3 c =
+    let told = c .before .before .before .before .before in
+    rw (told .enum-told3 .given .1) (told .before .before .before .before .field .ensures ⨾ c .before .before .word3 .ensures)
 
 pub lost-line-spec : {M : Type 1} → statement M
 lost-line-spec =
     tie.close
     (tie.spec
-    slice-aggregate-field
-    field-requires
-    enum-told
-    slice-aggregate-word
-    word-requires
-    enum-told-2
-    slice-aggregate-word-2
-    word-requires-2
-    enum-told-3
-    slice-aggregate-word-3
-    word-requires-3
-    same-length
+    (λ c. search needs)
+    (λ c κs. search needs)
+    (λ c. search needs)
+    (λ c. search needs)
+    (λ c κs. search needs)
+    (λ c. search needs)
+    (λ c. search needs)
+    (λ c κs. search needs)
+    (λ c. search needs)
+    (λ c. search needs)
+    (λ c κs. search needs)
+    (λ c. search needs)
     returns
-    same-length-2
+    (λ c. search needs)
     returns-2
-    same-length-3
+    (λ c. search needs)
     returns-3)

@@ -14,7 +14,10 @@ same-length : tie.Need-same-length
 same-length c = search needs
 
 returns : tie.Need-returns
-returns c = let a = c .before .before .before .before .before .before .args in put-noted (a .rule) (a .bad) (a .h) _ (c .before .before .before .before .element .ensures) (c .before .before .put-if .ensures)
+returns c =
+    let element = c .before .before .before .before in
+    let a = element .before .before .args in
+    put-noted (a .rule) (a .bad) (a .h) _ (element .element .ensures) (c .before .before .put-if .ensures)
 
 pub note-spec : {M : Type 1} → statement M
 note-spec = tie.close (tie.spec element-requires put-if-requires same-length returns)

@@ -1,8 +1,8 @@
--- `listing::texts::put` meets its contract. Assumes nothing.
+-- `texts::putting::put` meets its contract. Assumes nothing.
 use borrow.Author.Needs.{needs}
-use Rattle.listing.proofs.Laws.Putting.{put-in, put-out}
-use Rattle.listing.proofs.texts.put.Statement.{statement}
-use Rattle.listing.proofs.texts.put.Tie as tie
+use Rattle.texts.proofs.Laws.Putting.{put-in, put-out}
+use Rattle.texts.proofs.putting.put.Statement.{statement}
+use Rattle.texts.proofs.putting.put.Tie as tie
 
 slice-write-out : tie.Need-slice-write-out
 slice-write-out c = search needs

@@ -1,10 +1,10 @@
-// Texts: words, and numbers in decimal.
+// Words, and numbers in decimal, octet by octet.
 ghost use mathlib.Core.Path.{_≡_};
 ghost use mathlib.Core.List.{[], _∷_, _++_};
 ghost use Prim.Native.Nat.{_<_};
 ghost use lib.ListN.{length, drop};
-ghost use Rattle.listing.specs.Texts.{decimal as Decimal};
-ghost use Rattle.listing.specs.Putting.{Put};
+ghost use Rattle.texts.specs.Texts.{decimal as Decimal};
+ghost use Rattle.texts.specs.Putting.{Put};
 
 // One octet.
 fn put(out: &mut [u8], n: usize, b: u8) -> usize
@@ -46,7 +46,7 @@ fn digits(x: usize, space: &mut [u8]) -> usize
     i
 }
 
-fn decimal(out: &mut [u8], n: usize, x: usize) -> usize
+pub fn decimal(out: &mut [u8], n: usize, x: usize) -> usize
     ensures { λ r. ⌜ Put (Decimal x) n (now (out .entry)) r (now (out .exit)) ⌝ }
 {
     let mut space = [0u8; 20];

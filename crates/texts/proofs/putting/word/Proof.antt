@@ -1,13 +1,13 @@
--- `listing::texts::word` meets its contract. The invariant: so far the first i octets are put. Assumes nothing.
+-- `texts::putting::word` meets its contract. The invariant: so far the first i octets are put. Assumes nothing.
 use mathlib.Core.Path.{_≡_, refl, _∙_}
 use Prim.Native.Nat.{_-_}
 use native.Mathlib.Omega.{arith}
 use lib.ListN.{length, take}
 use borrow.Author.Needs.{needs}
-use Rattle.listing.specs.Putting.{Put}
-use Rattle.listing.proofs.Laws.Putting.{put-nothing, put-next, put-all}
-use Rattle.listing.proofs.texts.word.Statement.{statement}
-use Rattle.listing.proofs.texts.word.Tie as tie
+use Rattle.texts.specs.Putting.{Put}
+use Rattle.texts.proofs.Laws.Putting.{put-nothing, put-next, put-all}
+use Rattle.texts.proofs.putting.word.Statement.{statement}
+use Rattle.texts.proofs.putting.word.Tie as tie
 
 abbrev Inv-loop : tie.InvT-loop
 Inv-loop out₀ n text m₀ i₀ out m i = (length out ≡ length out₀) × Put (take i text) n out₀ m out

@@ -17,7 +17,7 @@ use lib.ListN.{length, getD, set, take, drop, length-set, length-append}
 use lib.Seq.{sets, sets-eq, set-out, length-sets, take-suc, take-all}
 use lib.Dec.{ltb}
 use borrow.Author.Tests.{ltb-true, ltb-false}
-use Rattle.listing.specs.Putting.{placeAfter, bufferAfter, Put}
+use Rattle.texts.specs.Putting.{placeAfter, bufferAfter, Put}
 
 module _ (b n : ℕ) (out : List ℕ) where
   pub put-in : n < length out → Put (b ∷ []) n out (n + 1) (set out n b)

@@ -19,3 +19,7 @@ digitsBy (suc most) n = elim (ltb n 10) [ true ↦ (48 + n) ∷ [] | false ↦ d
 -- a number in decimal, which has fewer digits than it counts
 unfoldable pub decimal : ℕ → List ℕ
 decimal n = digitsBy (suc n) n
+
+-- a word, and a number behind it
+abbrev pub fieldOf : String → ℕ → List ℕ
+fieldOf w n = word w ++ decimal n

@@ -1,8 +1,8 @@
--- `listing::texts::field` meets its contract. Assumes nothing.
+-- `texts::putting::field` meets its contract. Assumes nothing.
 use borrow.Author.Needs.{needs}
-use Rattle.listing.proofs.Laws.Putting.{_⨾_}
-use Rattle.listing.proofs.texts.field.Statement.{statement}
-use Rattle.listing.proofs.texts.field.Tie as tie
+use Rattle.texts.proofs.Laws.Putting.{_⨾_}
+use Rattle.texts.proofs.putting.field.Statement.{statement}
+use Rattle.texts.proofs.putting.field.Tie as tie
 
 word-requires : tie.Need-word-requires
 word-requires c κs = search needs

@@ -1,8 +1,8 @@
--- `listing::texts::decimal` meets its contract. Assumes nothing.
+-- `texts::putting::decimal` meets its contract. Assumes nothing.
 use borrow.Author.Needs.{needs}
-use Rattle.listing.proofs.Laws.Decimal.{digits-put}
-use Rattle.listing.proofs.texts.decimal.Statement.{statement}
-use Rattle.listing.proofs.texts.decimal.Tie as tie
+use Rattle.texts.proofs.Laws.Digits.{digits-put}
+use Rattle.texts.proofs.putting.decimal.Statement.{statement}
+use Rattle.texts.proofs.putting.decimal.Tie as tie
 
 slice-aggregate-digits : tie.Need-slice-aggregate-digits
 slice-aggregate-digits c = search needs

@@ -1,11 +1,11 @@
--- `listing::lines::read_entry` meets its contract. Assumes nothing.
+-- `report::read_entry` meets its contract. Assumes nothing.
 use borrow.Author.Needs.{needs}
-use Rattle.listing.proofs.Laws.Entries.{entry-past, entry-by}
-use Rattle.listing.proofs.lines.read_entry.Statement.{statement}
-use Rattle.listing.proofs.lines.read_entry.Tie as tie
+use Rattle.report.proofs.Laws.Reading.{entry-past, entry-by}
+use Rattle.report.proofs.reading.read_entry.Statement.{statement}
+use Rattle.report.proofs.reading.read_entry.Tie as tie
 
 returns : tie.Need-returns
-returns c = entry-past (c .before .before .args .s .now) (c .before .before .args .k) (c .if1 .taken)
+returns c = let a = c .before .before .args in entry-past (a .report .now) (a .k) (c .if1 .taken)
 
 mul-at : tie.Need-mul-at
 mul-at c = search needs
@@ -26,7 +26,9 @@ pair-requires-3 : tie.Need-pair-requires-3
 pair-requires-3 c κs = search needs
 
 returns-2 : tie.Need-returns-2
-returns-2 c = entry-by (c .before .before .before .before .before .args .s .now) (c .before .before .before .before .before .args .k) (c .pair3 .ensures .0) (c .before .before .pair .ensures .0) (c .before .pair2 .ensures .0)
+returns-2 c =
+    let a = c .before .before .before .before .before .args in
+    entry-by (a .report .now) (a .k) (c .pair3 .ensures .0) (c .before .before .pair .ensures .0) (c .before .pair2 .ensures .0)
 
 pub read-entry-spec : {M : Type 1} → statement M
 read-entry-spec =

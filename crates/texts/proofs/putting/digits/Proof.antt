@@ -1,10 +1,10 @@
--- `listing::texts::digits` meets its contract. The number that is left falls. Assumes nothing.
+-- `texts::putting::digits` meets its contract. The number that is left falls. Assumes nothing.
 use mathlib.Core.Path.{sym, _∙_}
 use native.Mathlib.Omega.{arith}
 use borrow.Author.Needs.{needs}
-use Rattle.listing.proofs.Laws.Decimal.{Begun, begin, digit-on, digit-last, still-long}
-use Rattle.listing.proofs.texts.digits.Statement.{statement}
-use Rattle.listing.proofs.texts.digits.Tie as tie
+use Rattle.texts.proofs.Laws.Digits.{Begun, begin, digit-on, digit-last, still-long}
+use Rattle.texts.proofs.putting.digits.Statement.{statement}
+use Rattle.texts.proofs.putting.digits.Tie as tie
 
 abbrev Inv-loop : tie.InvT-loop
 Inv-loop x space₀ rest₀ i₀ space rest i = Begun x space rest i

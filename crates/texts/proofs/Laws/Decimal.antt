@@ -1,25 +1,21 @@
 -- Numbers in decimal.
 --     one-digit, more-digits      a number below 10, and one above
 --     tenth                       where there is a digit more, there is room for it
---     Begun, begin, digit-on, digit-last, still-long, digits-put
---                                 digits written from the last one on, to the end of a space of 20 octets
 --     saidFrom, decimal-right     the digits say the number
 --     decimal-long, wide-long     how many digits: at most k below 10 ^ k, so at most 20 below 2 ^ 64
 --     no-zero-first               the first digit of a number above 0 is not 0
 --     AllDigits, all-digits       each octet is one of 48 to 57
 -- Assumes nothing.
-use mathlib.Core.Path.{_≡_, refl, sym, ap, ap₂, subst, _∙_}
-use mathlib.Core.List.{List, [], _∷_, _++_, append-nil}
+use mathlib.Core.Path.{_≡_, refl, ap}
+use mathlib.Core.List.{List, [], _∷_, _++_}
 use mathlib.Core.Bool.{Bool, true, false}
 use Prim.Native.Nat.{ℕ, zero, suc, _+_, _-_, _*_, _/_, _%_, _^_, _≤_, _<_}
 use native.Mathlib.Nat.{pow-suc}
 use native.Mathlib.Omega.{arith}
-use lib.ListN.{length, getD, set, take, drop, length-append, length-set, length-drop, drop-of-length-le, List·getD-append}
-use lib.Seq.{take-all, drop-cons, drop-set-lt, getD-set-same, append-snoc}
+use lib.ListN.{length, getD, length-append, List·getD-append}
 use lib.Dec.{ltb}
 use borrow.Author.Tests.{lt-ltb, le-ltb, ltb-true, ltb-false}
-use Rattle.listing.specs.Texts.{digitsBy, decimal}
-use Rattle.listing.specs.Putting.{Put}
+use Rattle.texts.specs.Texts.{digitsBy, decimal}
 
 -- the digits are the same, however many more there might be
 by-most : (f g n : ℕ) → n < f → n < g → digitsBy f n ≡ digitsBy g n
@@ -29,7 +25,8 @@ by-most (suc f) zero n h l = absurd (omega arith)
 by-most (suc f) (suc g) n h l = go (by-most f g (n / 10)) (ltb n 10) refl
   where
     go : (n / 10 < f → n / 10 < g → digitsBy f (n / 10) ≡ digitsBy g (n / 10)) → (t : Bool) → ltb n 10 ≡ t
-        → _≡_ {A = List ℕ} (elim t [ true ↦ (48 + n) ∷ [] | false ↦ digitsBy f (n / 10) ++ ((48 + n % 10) ∷ []) ]) (elim t [ true ↦ (48 + n) ∷ [] | false ↦ digitsBy g (n / 10) ++ ((48 + n % 10) ∷ []) ])
+        → _≡_ {A = List ℕ} (elim t [ true ↦ (48 + n) ∷ [] | false ↦ digitsBy f (n / 10) ++ ((48 + n % 10) ∷ []) ])
+        (elim t [ true ↦ (48 + n) ∷ [] | false ↦ digitsBy g (n / 10) ++ ((48 + n % 10) ∷ []) ])
     go e true t = refl
     go e false t =
         let k : 10 ≤ n = ltb-false n 10 t in
@@ -53,67 +50,6 @@ tenth n (suc (suc i)) h l =
     let t : n / 10 < 10 ^ suc i = omega arith in
     let e : suc (suc i) - 1 ≡ suc i = omega arith in
     (omega arith, rw e t)
-
--- ---- digits written from the last one on, to the end of a space of 20 octets
-
--- those from place i on are written, and `rest` is left to be written before them
-pub record Begun (x : ℕ) (space : List ℕ) (rest i : ℕ) : Type 0 where
-  pub long : length space ≡ 20
-  pub digits : decimal rest ++ drop i space ≡ decimal x
-  pub enough : rest < 10 ^ i
-  pub some : 1 ≤ i
-  pub most : i ≤ 20
-
-pub begin : (x : ℕ) (space : List ℕ) → length space ≡ 20 → x < 2 ^ 64 → Begun x space x 20
-begin x space l h =
-    record {
-      long = l;
-      digits = ap (λ (t : List ℕ). decimal x ++ t) (drop-of-length-le space {i = 20} (omega arith)) ∙ append-nil (decimal x);
-      enough = omega arith;
-      some = omega arith;
-      most = omega arith;
-    }
-
-drop-set : (l : List ℕ) (i b : ℕ) → i < length l → drop i (set l i b) ≡ b ∷ drop (suc i) l
-drop-set l i b h =
-    drop-cons (set l i b) i 0 (rw (length-set l i b) h)
-    ∙ ap₂ (λ (c : ℕ) (t : List ℕ). c ∷ t) (getD-set-same l i b 0 h) (drop-set-lt (suc i) l i b (omega arith))
-
-module _ {x : ℕ} {space : List ℕ} {rest i : ℕ} (w : Begun x space rest i) where
-  abbrev with-digit : ℕ → List ℕ
-  with-digit d = set space (i - 1) (48 + d)
-
-  in-front : (d : ℕ) → drop (i - 1) (with-digit d) ≡ (48 + d) ∷ drop i space
-  in-front d =
-      let e : suc (i - 1) ≡ i = omega (arith, w .some) in
-      drop-set space (i - 1) (48 + d) (omega (arith, w .long, w .some, w .most)) ∙ ap (λ (k : ℕ). (48 + d) ∷ drop k space) e
-
-  pub still-long : (d : ℕ) → length (with-digit d) ≡ 20
-  still-long d = length-set space (i - 1) (48 + d) ∙ w .long
-
-  pub digit-on : 10 ≤ rest → Begun x (with-digit (rest % 10)) (rest / 10) (i - 1)
-  digit-on h =
-      let t = tenth rest i h (w .enough) in
-      record {
-        long = still-long (rest % 10);
-        digits =
-            ap (λ (l : List ℕ). decimal (rest / 10) ++ l) (in-front (rest % 10))
-            ∙ sym (append-snoc (decimal (rest / 10)) (48 + rest % 10) (drop i space))
-            ∙ ap (λ (l : List ℕ). l ++ drop i space) (sym (more-digits rest h))
-            ∙ w .digits;
-        enough = t .1;
-        some = omega (arith, t .0);
-        most = omega (arith, w .most);
-      }
-
-  pub digit-last : rest < 10 → (drop (i - 1) (with-digit rest) ≡ decimal x) × (i - 1 < 20)
-  digit-last h =
-      (in-front rest ∙ ap (λ (l : List ℕ). l ++ drop i space) (sym (one-digit rest h)) ∙ w .digits, omega (arith, w .some, w .most))
-
-pub digits-put : (x at : ℕ) (space : List ℕ) {n r : ℕ} {out last : List ℕ} → length space ≡ 20 → drop at space ≡ decimal x → Put (take (20 - at) (drop at space)) n out r last → Put (decimal x) n out r last
-digits-put x at space {n} {r} {out} {last} l e p =
-    let all : length (drop at space) ≤ 20 - at = simp (length-drop, l) (omega arith) in
-    subst (λ (t : List ℕ). Put t n out r last) (take-all (20 - at) (drop at space) all ∙ e) p
 
 -- ---- what the digits say
 
@@ -188,4 +124,5 @@ pub all-digits : (n : ℕ) → AllDigits (decimal n)
 all-digits =
     by-tenths (λ (n : ℕ). AllDigits (decimal n))
     (λ (n : ℕ) (h : n < 10). rw (one-digit n h) (omega arith, omega arith, tt))
-    (λ (n : ℕ) (h : 10 ≤ n) (d : AllDigits (decimal (n / 10))). rw (more-digits n h) (digits-snoc (decimal (n / 10)) (48 + n % 10) d (omega arith) (omega arith)))
+    (λ (n : ℕ) (h : 10 ≤ n) (d : AllDigits (decimal (n / 10))).
+    rw (more-digits n h) (digits-snoc (decimal (n / 10)) (48 + n % 10) d (omega arith) (omega arith)))

@@ -1,0 +1,4 @@
+-- Laws of the definitions, by file.
+pub mod Putting
+pub mod Decimal
+pub mod Digits

@@ -1,0 +1,3 @@
+-- Texts as octets, and what putting one into a lent buffer does.
+pub mod Texts
+pub mod Putting
