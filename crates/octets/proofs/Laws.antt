@@ -1,6 +1,7 @@
 -- Laws of the definitions, by file.
 pub mod Tests
 pub mod Octets
+pub mod Parts
 pub mod Numbers
 pub mod Same
 pub mod Places

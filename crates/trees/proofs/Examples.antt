@@ -26,6 +26,7 @@ unfolding table stretchSoundness soundness first elementsOf elementOk primitiveO
 judged = refl
 
 -- 8.1.3.4 and 8.1.3.5: a length of 38 takes one octet, 201 one more; and beside X.690's own, 127, 300 and 65,536
-pub lengths : map lengthOctets (38 ∷ 201 ∷ 127 ∷ 300 ∷ 65536 ∷ []) ≡ (0x26 ∷ []) ∷ (0x81 ∷ 0xC9 ∷ []) ∷ (0x7F ∷ []) ∷ (0x82 ∷ 0x01 ∷ 0x2C ∷ []) ∷ (0x83 ∷ 0x01 ∷ 0x00 ∷ 0x00 ∷ []) ∷ []
+pub lengths : map lengthOctets (38 ∷ 201 ∷ 127 ∷ 300 ∷ 65536 ∷ [])
+    ≡ (0x26 ∷ []) ∷ (0x81 ∷ 0xC9 ∷ []) ∷ (0x7F ∷ []) ∷ (0x82 ∷ 0x01 ∷ 0x2C ∷ []) ∷ (0x83 ∷ 0x01 ∷ 0x00 ∷ 0x00 ∷ []) ∷ []
 unfolding lengthOctets numberOctets numberBy
 lengths = refl

@@ -1,5 +1,4 @@
 -- Laws of the definitions, by file.
-pub mod Parts
 pub mod Numbers
 pub mod Identifier
 pub mod Lengths

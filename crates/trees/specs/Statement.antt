@@ -29,8 +29,10 @@ pub record Exactly : Type 0 where
   -- refusal 4 is not given exactly if they are those of such a tree, whatever the order of its SETs
   pub faultless-exactly : (s : List ℕ) → Octets s → Faultless (derSoundness s) ↔ ((t : Tree) × Encodes t s)
   -- the same of a stretch of octets, such as an extension's value
-  pub stretch-sound : (s : List ℕ) (at end : ℕ) → Octets s → end ≤ length s → (stretchSoundness s at end ≡ Sound) ↔ ((t : Tree) × Encodes t (octetsFrom s at (end - at)) × Ordered t)
-  pub stretch-faultless : (s : List ℕ) (at end : ℕ) → Octets s → end ≤ length s → Faultless (stretchSoundness s at end) ↔ ((t : Tree) × Encodes t (octetsFrom s at (end - at)))
+  pub stretch-sound : (s : List ℕ) (at end : ℕ) → Octets s → end ≤ length s
+      → (stretchSoundness s at end ≡ Sound) ↔ ((t : Tree) × Encodes t (octetsFrom s at (end - at)) × Ordered t)
+  pub stretch-faultless : (s : List ℕ) (at end : ℕ) → Octets s → end ≤ length s
+      → Faultless (stretchSoundness s at end) ↔ ((t : Tree) × Encodes t (octetsFrom s at (end - at)))
 
 pub record Faithful : Type 0 where
   -- an encoding is octets and reads back as its tree, however many levels it has

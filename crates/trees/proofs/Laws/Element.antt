@@ -23,7 +23,7 @@ use Rattle.der.proofs.Laws.Header.{head-whole}
 use Rattle.octets.specs.Octets.{octetAt, octetsFrom}
 use Rattle.octets.proofs.Laws.Octets.{octets-long, octets-whole}
 use Rattle.octets.proofs.Laws.Tests.{and-l, and-r}
-use Rattle.trees.proofs.Laws.Parts.{head-same, tail-same, part-same, part-join, part-cut}
+use Rattle.octets.proofs.Laws.Parts.{head-same, tail-same, part-same, part-join, part-cut}
 use Rattle.trees.proofs.Laws.Lengths.{length-reads, length-written}
 
 pub element-longer : (identifier : ℕ) (c : List ℕ) → length c < length (element identifier c)
@@ -41,7 +41,8 @@ pub record Reads (s : List ℕ) (at end identifier : ℕ) (c : List ℕ) : Type 
   pub size : skip + length c ≡ length (element identifier c)
   pub inside : at + (skip + length c) ≤ end
 
-module _ (s : List ℕ) (at end identifier : ℕ) (c rest : List ℕ) (w : end ≤ length s) (t : tagOk identifier ≡ true) (few : LengthOk c) (e : octetsFrom s at (end - at) ≡ element identifier c ++ rest) where
+module _ (s : List ℕ) (at end identifier : ℕ) (c rest : List ℕ) (w : end ≤ length s) (t : tagOk identifier ≡ true) (few : LengthOk c)
+    (e : octetsFrom s at (end - at) ≡ element identifier c ++ rest) where
   abbrev header : List ℕ
   header = lengthOctets (length c)
 
@@ -58,7 +59,8 @@ module _ (s : List ℕ) (at end identifier : ℕ) (c rest : List ℕ) (w : end �
 
   within : at + (skips + length c) ≤ end
   within =
-      let n : end - at ≡ length (element identifier c) + length rest = sym (octets-long s at (end - at)) ∙ (ap length e ∙ length-append (element identifier c) rest) in
+      let n : end - at ≡ length (element identifier c) + length rest =
+      sym (octets-long s at (end - at)) ∙ (ap length e ∙ length-append (element identifier c) rest) in
       let m = sized in
       omega arith
 
@@ -67,7 +69,8 @@ module _ (s : List ℕ) (at end identifier : ℕ) (c rest : List ℕ) (w : end �
   read-head =
       let len = length-reads s at (length c) few (tail-same _ _ _ _ (cut .0)) in
       (λ i. headIf (le-leb end (length s) w i && len .sound i) at end (head-same _ _ _ _ (cut .0) i) (len .skip i) (len .said i))
-      ∙ sym (head-whole true at end identifier skips (length c) (tagOk identifier) (leb (at + (skips + length c)) end) refl refl (λ i. t i && le-leb (at + (skips + length c)) end within i))
+      ∙ sym (head-whole true at end identifier skips (length c) (tagOk identifier) (leb (at + (skips + length c)) end) refl refl
+      (λ i. t i && le-leb (at + (skips + length c)) end within i))
 
   pub element-reads : Reads s at end identifier c
   element-reads =
@@ -76,8 +79,12 @@ module _ (s : List ℕ) (at end identifier : ℕ) (c rest : List ℕ) (w : end �
       record {
         skip = skips;
         head = read-head;
-        contents = part-same s (at + skips) (at + skips) (at + (skips + length c) - (at + skips)) (length c) refl m ∙ part-cut s (at + skips) (end - at - skips) c rest (cut .1) .0;
-        octets = part-same s at at (at + (skips + length c) - at) (length (element identifier c)) refl n ∙ part-cut s at (end - at) (element identifier c) rest e .0;
+        contents =
+            part-same s (at + skips) (at + skips) (at + (skips + length c) - (at + skips)) (length c) refl m
+            ∙ part-cut s (at + skips) (end - at - skips) c rest (cut .1) .0;
+        octets =
+            part-same s at at (at + (skips + length c) - at) (length (element identifier c)) refl n
+            ∙ part-cut s at (end - at) (element identifier c) rest e .0;
         size = sized;
         inside = within;
       }
@@ -96,17 +103,23 @@ head-passed s at end e = go ((leb end (length s) && lengthOk s at) && (tagOk (oc
     here : Bool → Head
     here b = cond b (wholeHead at (octetAt s at) (headerSize s at) (lengthOf s at)) (brokenHead at end)
 
-    go : (b : Bool) → ((leb end (length s) && lengthOk s at) && (tagOk (octetAt s at) && leb (at + (headerSize s at + lengthOf s at)) end)) ≡ b → here b .sound ≡ true → Passed s at end
+    go : (b : Bool)
+        → ((leb end (length s) && lengthOk s at) && (tagOk (octetAt s at) && leb (at + (headerSize s at + lengthOf s at)) end)) ≡ b
+        → here b .sound ≡ true → Passed s at end
     go true f g =
         let inner = and-r (leb end (length s) && lengthOk s at) (tagOk (octetAt s at) && leb (at + (headerSize s at + lengthOf s at)) end) f in
         record {
           head = ap here f;
           tag = and-l (tagOk (octetAt s at)) (leb (at + (headerSize s at + lengthOf s at)) end) inner;
-          length = and-r (leb end (length s)) (lengthOk s at) (and-l (leb end (length s) && lengthOk s at) (tagOk (octetAt s at) && leb (at + (headerSize s at + lengthOf s at)) end) f);
+          length =
+              and-r (leb end (length s)) (lengthOk s at)
+              (and-l (leb end (length s) && lengthOk s at) (tagOk (octetAt s at) && leb (at + (headerSize s at + lengthOf s at)) end) f);
         }
     go false f g = record { head = cc; tag = cc; length = cc }
 
-pub element-written : (s : List ℕ) (at : ℕ) → Octets s → lengthOk s at ≡ true → LengthOk (octetsFrom s (at + headerSize s at) (lengthOf s at)) × (element (octetAt s at) (octetsFrom s (at + headerSize s at) (lengthOf s at)) ≡ octetsFrom s at (headerSize s at + lengthOf s at))
+pub element-written : (s : List ℕ) (at : ℕ) → Octets s → lengthOk s at ≡ true
+    → LengthOk (octetsFrom s (at + headerSize s at) (lengthOf s at))
+    × (element (octetAt s at) (octetsFrom s (at + headerSize s at) (lengthOf s at)) ≡ octetsFrom s at (headerSize s at + lengthOf s at))
 unfolding element octetsFrom
 element-written s at o k =
     let len = length-written s at o k in

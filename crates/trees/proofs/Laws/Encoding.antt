@@ -39,14 +39,16 @@ length-octets n few = go (ltb n 128) refl
 
 element-octets : (identifier : ℕ) (c : List ℕ) → identifier < 256 → LengthOk c → Octets c → Octets (element identifier c)
 unfolding element
-element-octets identifier c h few o = octets-put identifier (lengthOctets (length c) ++ c) h (octets-join (lengthOctets (length c)) c (length-octets (length c) few) o)
+element-octets identifier c h few o =
+    octets-put identifier (lengthOctets (length c) ++ c) h (octets-join (lengthOctets (length c)) c (length-octets (length c) few) o)
 
 mutual
   unfolding Good encode
 
   pub encode-octets : (t : Tree) → Good t → Octets (encode t)
   encode-octets (primitive tag c) g = element-octets (identifierOctet 0 tag) c (identifier-octet 0 tag (omega arith) (g .0 .0)) (g .1) (g .3)
-  encode-octets (constructed tag ts) g = element-octets (identifierOctet 1 tag) (encodeAll ts) (identifier-octet 1 tag (omega arith) (g .0 .0)) (g .1) (all-octets ts (g .3))
+  encode-octets (constructed tag ts) g =
+      element-octets (identifierOctet 1 tag) (encodeAll ts) (identifier-octet 1 tag (omega arith) (g .0 .0)) (g .1) (all-octets ts (g .3))
 
   all-octets : (ts : Trees) → AllGood ts → Octets (encodeAll ts)
   all-octets nothing g = λ i. omega arith
@@ -93,9 +95,11 @@ pub encode-alone : (t u : Tree) (x : List ℕ) → Good t → Good u → encode 
 encode-alone t u x g h e =
     let a = headed t g in
     let b = headed u h in
-    element-alone (a .identifier) (b .identifier) (a .contents) (b .contents) x (a .tag) (b .tag) (a .few) (b .few) (ap (λ (l : List ℕ). l ++ x) (sym (a .whole)) ∙ (e ∙ b .whole))
+    element-alone (a .identifier) (b .identifier) (a .contents) (b .contents) x (a .tag) (b .tag) (a .few) (b .few)
+    (ap (λ (l : List ℕ). l ++ x) (sym (a .whole)) ∙ (e ∙ b .whole))
 
-pub padded-same : (x y : List ℕ) → ((z : List ℕ) → x ++ z ≡ y → z ≡ []) → ((z : List ℕ) → y ++ z ≡ x → z ≡ []) → octetsLe (padded (length y) x) (padded (length x) y) ≡ octetsLe x y
+pub padded-same : (x y : List ℕ) → ((z : List ℕ) → x ++ z ≡ y → z ≡ []) → ((z : List ℕ) → y ++ z ≡ x → z ≡ [])
+    → octetsLe (padded (length y) x) (padded (length x) y) ≡ octetsLe x y
 unfolding padded zeros octetsLe
 padded-same [] [] f g = refl
 padded-same [] (y ∷ ys) f g = let n : suc (length ys) ≡ 0 = ap length (f (y ∷ ys) refl) in absurd (omega arith)
@@ -109,7 +113,9 @@ padded-same (x ∷ xs) (y ∷ ys) f g =
     right : List ℕ
     right = ys ++ zeros (suc (length xs) - suc (length ys))
 
-    go : (b : Bool) → ltb x y ≡ b → (c : Bool) → ltb y x ≡ c → (x ≡ y → octetsLe (padded (length ys) xs) (padded (length xs) ys) ≡ octetsLe xs ys) → cond b true (cond c false (octetsLe left right)) ≡ cond b true (cond c false (octetsLe xs ys))
+    go : (b : Bool) → ltb x y ≡ b → (c : Bool) → ltb y x ≡ c
+        → (x ≡ y → octetsLe (padded (length ys) xs) (padded (length xs) ys) ≡ octetsLe xs ys)
+        → cond b true (cond c false (octetsLe left right)) ≡ cond b true (cond c false (octetsLe xs ys))
     go true p c q ih = refl
     go false p true q ih = refl
     go false p false q ih =
@@ -119,7 +125,8 @@ padded-same (x ∷ xs) (y ∷ ys) f g =
         let k = ltb-false y x q in
         (λ i. octetsLe (xs ++ zeros (a i)) (ys ++ zeros (b i))) ∙ ih (omega arith)
 
-not-after : (t u : Tree) → Good t → Good u → octetsLe (padded (length (encode u)) (encode t)) (padded (length (encode t)) (encode u)) ≡ octetsLe (encode t) (encode u)
+not-after : (t u : Tree) → Good t → Good u
+    → octetsLe (padded (length (encode u)) (encode t)) (padded (length (encode t)) (encode u)) ≡ octetsLe (encode t) (encode u)
 not-after t u g h = padded-same (encode t) (encode u) (λ z. encode-alone t u z g h) (λ z. encode-alone u t z h g)
 
 ascend-after : (t : Tree) (ts : Trees) → Good t → AllGood ts → (ascendFrom (encode t) (encodings ts) ≡ true) ↔ Ascending (encode t ∷ encodings ts)
@@ -128,7 +135,10 @@ ascend-after t nothing g h = ((λ e. tt), λ e. refl)
 ascend-after t (u then us) g h =
     let n = not-after t u g (h .0) in
     let ih = ascend-after u us (h .0) (h .1) in (
-      (λ e. (n ∙ and-l (octetsLe (encode t) (encode u)) (ascendFrom (encode u) (encodings us)) e, ih .0 (and-r (octetsLe (encode t) (encode u)) (ascendFrom (encode u) (encodings us)) e))),
+      (λ e. (
+        n ∙ and-l (octetsLe (encode t) (encode u)) (ascendFrom (encode u) (encodings us)) e,
+        ih .0 (and-r (octetsLe (encode t) (encode u)) (ascendFrom (encode u) (encodings us)) e),
+      )),
       λ e. λ i. (sym n ∙ e .0) i && ih .1 (e .1) i,
     )
 

@@ -68,9 +68,15 @@ module _ (form : ℕ) (tag : Tag) (f : form < 2) (l : tag .number < 31) where
 
   pub tag-passes : (tag ≡ reserved → ⊥) → tagOk octet ≡ true
   tag-passes r =
-      rw (ne-eqb (octet % 32) 31 (λ e. omega arith), ne-eqb octet 0 (λ e. r (sym identifier-tag ∙ ap tagOf e)), ne-eqb octet 32 (λ e. r (sym identifier-tag ∙ ap tagOf e)))
+      rw (
+        ne-eqb (octet % 32) 31 (λ e. omega arith),
+        ne-eqb octet 0 (λ e. r (sym identifier-tag ∙ ap tagOf e)),
+        ne-eqb octet 32 (λ e. r (sym identifier-tag ∙ ap tagOf e)),
+      )
 
-  pub type-kept : (c : List ℕ) → (tag .class ≡ universal → cond (not (eqb form 0)) (holdsElements (tag .number)) (primitiveOk (tag .number) c) ≡ true) → (leb 64 octet || universalOk octet c) ≡ true
+  pub type-kept : (c : List ℕ)
+      → (tag .class ≡ universal → cond (not (eqb form 0)) (holdsElements (tag .number)) (primitiveOk (tag .number) c) ≡ true)
+      → (leb 64 octet || universalOk octet c) ≡ true
   type-kept c u = go (leb 64 octet) refl
     where
       go : (t : Bool) → leb 64 octet ≡ t → (t || universalOk octet c) ≡ true
@@ -97,7 +103,8 @@ module _ (octet : ℕ) (h : octet < 256) where
       let z : octet / 64 ≡ 0 = sym (bits-class (octet / 64) (omega arith)) ∙ ap classBits e in
       omega arith
 
-  pub kept-type : (c : List ℕ) (b : Bool) → isConstructed octet ≡ b → (leb 64 octet || universalOk octet c) ≡ true → tagOf octet .class ≡ universal → cond b (holdsElements (octet % 32)) (primitiveOk (octet % 32) c) ≡ true
+  pub kept-type : (c : List ℕ) (b : Bool) → isConstructed octet ≡ b → (leb 64 octet || universalOk octet c) ≡ true
+      → tagOf octet .class ≡ universal → cond b (holdsElements (octet % 32)) (primitiveOk (octet % 32) c) ≡ true
   kept-type c b f e u = let k : universalOk octet c ≡ true = rw (lt-leb 64 octet (class-low u)) at e in rw f at k
 
   pub octet-tag : tagOk octet ≡ true → TagOk (tagOf octet)

@@ -17,7 +17,7 @@ use Rattle.octets.specs.Octets.{octetAt, octetsFrom}
 use Rattle.octets.specs.Numbers.{numberOf}
 use Rattle.octets.proofs.Laws.Octets.{octets-long, octets-at}
 use Rattle.octets.proofs.Laws.Tests.{and-l, and-r}
-use Rattle.trees.proofs.Laws.Parts.{head-same, tail-same, part-same}
+use Rattle.octets.proofs.Laws.Parts.{head-same, tail-same, part-same}
 use Rattle.trees.proofs.Laws.Identifier.{unequal}
 use Rattle.trees.proofs.Laws.Numbers.{number-reads, number-high, number-written, number-fits}
 
@@ -77,7 +77,8 @@ some-octet : (l : List ℕ) → (octetAt l 0 ≡ 0 → ⊥) → 1 ≤ length l
 some-octet [] f = absurd (f refl)
 some-octet (b ∷ bs) f = omega arith
 
-pub length-reads : (s : List ℕ) (at n : ℕ) → length (numberOctets n) < 127 → octetsFrom s (at + 1) (length (lengthOctets n)) ≡ lengthOctets n → Length s at (length (lengthOctets n)) n
+pub length-reads : (s : List ℕ) (at n : ℕ) → length (numberOctets n) < 127
+    → octetsFrom s (at + 1) (length (lengthOctets n)) ≡ lengthOctets n → Length s at (length (lengthOctets n)) n
 unfolding octetsFrom
 length-reads s at n few e = go (ltb n 128) refl
   where
@@ -96,7 +97,8 @@ length-reads s at n few e = go (ltb n 128) refl
         let high : octetAt bs 0 ≡ 0 → ⊥ = number-high n (omega arith) in
         let some = some-octet bs high in
         let z : at + 2 + 0 ≡ at + 2 = omega arith in
-        let first : octetAt bs 0 ≡ octetAt s (at + 2) = ap (λ (l : List ℕ). octetAt l 0) (sym p) ∙ (octets-at s (at + 2) (length bs) 0 some ∙ ap (octetAt s) z) in
+        let first : octetAt bs 0 ≡ octetAt s (at + 2) =
+        ap (λ (l : List ℕ). octetAt l 0) (sym p) ∙ (octets-at s (at + 2) (length bs) 0 some ∙ ap (octetAt s) z) in
         rw f (read-long s at n (length bs) (head-same _ _ _ _ g) (ap numberOf p ∙ number-reads n) (λ z. high (first ∙ z)) some few h)
 
 -- ---- read, then written

@@ -32,12 +32,16 @@ unfolding numberBy
 by-more fuel n after h = rw (le-ltb n 256 h, numberBy)
 
 -- what holds of the last step, and of each step if it holds of the next
-module _ (P : ℕ → List ℕ → List ℕ → Type 0) (last : (n : ℕ) (after : List ℕ) → n < 256 → P n after (n ∷ after)) (more : (n : ℕ) (after bs : List ℕ) → 256 ≤ n → P (n / 256) (n % 256 ∷ after) bs → P n after bs) where
+module _ (P : ℕ → List ℕ → List ℕ → Type 0)
+    (last : (n : ℕ) (after : List ℕ) → n < 256 → P n after (n ∷ after))
+    (more : (n : ℕ) (after bs : List ℕ) → 256 ≤ n → P (n / 256) (n % 256 ∷ after) bs → P n after bs) where
   by-steps : (fuel n : ℕ) (after : List ℕ) → n < fuel → P n after (numberBy fuel n after)
   by-steps zero n after h = absurd (omega arith)
   by-steps (suc fuel) n after h = go (ltb n 256) refl (by-steps fuel (n / 256) (n % 256 ∷ after))
     where
-      go : (b : Bool) → ltb n 256 ≡ b → (n / 256 < fuel → P (n / 256) (n % 256 ∷ after) (numberBy fuel (n / 256) (n % 256 ∷ after))) → P n after (numberBy (suc fuel) n after)
+      go : (b : Bool) → ltb n 256 ≡ b
+          → (n / 256 < fuel → P (n / 256) (n % 256 ∷ after) (numberBy fuel (n / 256) (n % 256 ∷ after)))
+          → P n after (numberBy (suc fuel) n after)
       go true e ih = let l = ltb-true n 256 e in rw (by-last fuel n after l) (last n after l)
       go false e ih =
           let l = ltb-false n 256 e in
@@ -67,7 +71,8 @@ octets-put b bs h o (suc i) = o i
 pub number-octets : (n : ℕ) → Octets (numberOctets n)
 unfolding numberOctets
 number-octets n =
-    by-steps (λ n after bs. Octets after → Octets bs) octets-put (λ n after bs h f o. f (octets-put (n % 256) after (omega arith) o)) (suc n) n [] (omega arith) (λ i. omega arith)
+    by-steps (λ n after bs. Octets after → Octets bs) octets-put (λ n after bs h f o. f (octets-put (n % 256) after (omega arith) o))
+    (suc n) n [] (omega arith) (λ i. omega arith)
 
 -- ---- read, then written
 
@@ -77,7 +82,9 @@ by-fuel zero g n after p q = absurd (omega arith)
 by-fuel (suc f) zero n after p q = absurd (omega arith)
 by-fuel (suc f) (suc g) n after p q = go (ltb n 256) refl (by-fuel f g (n / 256) (n % 256 ∷ after))
   where
-    go : (b : Bool) → ltb n 256 ≡ b → (n / 256 < f → n / 256 < g → numberBy f (n / 256) (n % 256 ∷ after) ≡ numberBy g (n / 256) (n % 256 ∷ after)) → numberBy (suc f) n after ≡ numberBy (suc g) n after
+    go : (b : Bool) → ltb n 256 ≡ b
+        → (n / 256 < f → n / 256 < g → numberBy f (n / 256) (n % 256 ∷ after) ≡ numberBy g (n / 256) (n % 256 ∷ after))
+        → numberBy (suc f) n after ≡ numberBy (suc g) n after
     go true e ih = let l = ltb-true n 256 e in by-last f n after l ∙ sym (by-last g n after l)
     go false e ih = let l = ltb-false n 256 e in by-more f n after l ∙ (ih (omega arith) (omega arith) ∙ sym (by-more g n after l))
 
@@ -116,7 +123,9 @@ number-fits n k h l =
     last : (n : ℕ) (after : List ℕ) → n < 256 → (k : ℕ) → 1 ≤ k → n < 256 ^ k → suc (length after) ≤ k + length after
     last n after h k p l = omega arith
 
-    more : (n : ℕ) (after bs : List ℕ) → 256 ≤ n → ((k : ℕ) → 1 ≤ k → n / 256 < 256 ^ k → length bs ≤ k + suc (length after)) → (k : ℕ) → 1 ≤ k → n < 256 ^ k → length bs ≤ k + length after
+    more : (n : ℕ) (after bs : List ℕ) → 256 ≤ n
+        → ((k : ℕ) → 1 ≤ k → n / 256 < 256 ^ k → length bs ≤ k + suc (length after))
+        → (k : ℕ) → 1 ≤ k → n < 256 ^ k → length bs ≤ k + length after
     more n after bs h f zero p l = absurd (omega arith)
     more n after bs h f (suc zero) p l = absurd (omega arith)
     more n after bs h f (suc (suc k)) p l =

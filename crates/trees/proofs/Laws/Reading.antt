@@ -14,7 +14,7 @@ use Rattle.trees.specs.Trees.{Tag, Tree, Trees, primitive, constructed, 
 use Rattle.trees.specs.Reading.{tagOf, treesOf, treeOf}
 use Rattle.trees.specs.Outline.{lineOf, outline, outlineAll}
 use Rattle.der.specs.Header.{wholeHead, headOf, childrenOf}
-use Rattle.der.specs.Contents.{constructed as isConstructed, universalOk, contentsOf, elementOk}
+use Rattle.der.specs.Contents.{constructed as isConstructed, universalOk, elementOk}
 use Rattle.der.specs.Order.{ascending, octetsOf}
 use Rattle.der.specs.Elements.{joined, elementsOf}
 use Rattle.der.specs.Soundness.{faulty, unordered, first}
@@ -22,10 +22,10 @@ use Rattle.der.specs.declared.header.Head.{Head}
 use Rattle.der.proofs.Laws.Children.{children-done, children-next}
 use Rattle.octets.specs.Octets.{octetsFrom}
 use Rattle.octets.proofs.Laws.Octets.{octets-long}
-use Rattle.trees.proofs.Laws.Parts.{part-same, part-cut}
+use Rattle.octets.proofs.Laws.Parts.{part-same, part-cut}
 use Rattle.trees.proofs.Laws.Identifier.{identifier-tag, identifier-form, tag-passes, type-kept}
 use Rattle.trees.proofs.Laws.Element.{Reads, element-reads}
-use Rattle.trees.proofs.Laws.Walks.{None, none-first, none-join, nodeOf, elements-plain, elements-list, ok-fault, ordered-plain, ordered-list}
+use Rattle.trees.proofs.Laws.Walks.{None, none-first, none-join, nodeOf, tree-plain, tree-list, elements-plain, elements-list, ok-fault, ordered-plain, ordered-list}
 use Rattle.trees.proofs.Laws.Encoding.{encode-some, ascending-same}
 
 -- what the octets of t say where they are read as the element h at place at
@@ -46,27 +46,24 @@ record Back (s : List ℕ) (d at : ℕ) (ts : Trees) (hs : List Head) : Type 0 w
   pub lines : (depth : ℕ) → depth + d ≡ 17 → map lineOf (joined (elementsOf s d) hs) ≡ outlineAll ts depth at
 
 abbrev pub ReadsOne : ℕ → Type 0
-ReadsOne d = (s : List ℕ) (at end : ℕ) (t : Tree) (rest : List ℕ) → end ≤ length s → Good t → height t ≤ d → octetsFrom s at (end - at) ≡ encode t ++ rest → Here s d at t (headOf s at end)
+ReadsOne d =
+    (s : List ℕ) (at end : ℕ) (t : Tree) (rest : List ℕ) → end ≤ length s → Good t → height t ≤ d
+    → octetsFrom s at (end - at) ≡ encode t ++ rest → Here s d at t (headOf s at end)
 
 abbrev ReadsAll : ℕ → Type 0
-ReadsAll d = (s : List ℕ) (at end : ℕ) (ts : Trees) → end ≤ length s → AllGood ts → heightAll ts ≤ d → octetsFrom s at (end - at) ≡ encodeAll ts → Back s d at ts (childrenOf s at end)
+ReadsAll d =
+    (s : List ℕ) (at end : ℕ) (ts : Trees) → end ≤ length s → AllGood ts → heightAll ts ≤ d → octetsFrom s at (end - at) ≡ encodeAll ts
+    → Back s d at ts (childrenOf s at end)
 
 -- ---- one element, by its form
-
-pub tree-plain : (s : List ℕ) (d : ℕ) (h : Head) → isConstructed (h .tag) ≡ false → treeOf s (suc d) h ≡ primitive (tagOf (h .tag)) (contentsOf s h)
-unfolding treeOf
-tree-plain s d h e = rw e
-
-pub tree-list : (s : List ℕ) (d : ℕ) (h : Head) → isConstructed (h .tag) ≡ true → treeOf s (suc d) h ≡ constructed (tagOf (h .tag)) (treesOf (treeOf s d) (childrenOf s (h .body) (h .end)))
-unfolding treeOf
-tree-list s d h e = rw e
 
 -- an element with this identifier octet and contents c, where it stands
 module _ (s : List ℕ) (d at end identifier : ℕ) (c : List ℕ) (r : Reads s at end identifier c) where
   abbrev here : Head
   here = wholeHead at identifier (r .skip) (length c)
 
-  its-line : (depth : ℕ) → depth + suc d ≡ 17 → lineOf (nodeOf s d here) ≡ record { depth = depth; start = at; identifier = identifier; size = length (element identifier c) }
+  its-line : (depth : ℕ) → depth + suc d ≡ 17
+      → lineOf (nodeOf s d here) ≡ record { depth = depth; start = at; identifier = identifier; size = length (element identifier c) }
   its-line depth e =
       let z = r .size in
       let n : at + (r .skip + length c) - at ≡ length (element identifier c) = omega arith in
@@ -83,7 +80,8 @@ module _ (s : List ℕ) (d at end identifier : ℕ) (c : List ℕ) (r : Reads s 
   its-body : at + r .skip ≡ at + (length (element identifier c) - length c)
   its-body = let z = r .size in omega arith
 
-read-plain : (d : ℕ) (s : List ℕ) (at end : ℕ) (tag : Tag) (c rest : List ℕ) → end ≤ length s → Good (primitive tag c) → octetsFrom s at (end - at) ≡ encode (primitive tag c) ++ rest → Here s (suc d) at (primitive tag c) (headOf s at end)
+read-plain : (d : ℕ) (s : List ℕ) (at end : ℕ) (tag : Tag) (c rest : List ℕ) → end ≤ length s → Good (primitive tag c)
+    → octetsFrom s at (end - at) ≡ encode (primitive tag c) ++ rest → Here s (suc d) at (primitive tag c) (headOf s at end)
 unfolding Good encode Ordered outline first
 read-plain d s at end tag c rest w g e =
     let id = identifierOctet 0 tag in
@@ -94,7 +92,9 @@ read-plain d s at end tag c rest w g e =
     let walk = elements-plain s d h form in
     subst (Here s (suc d) at (primitive tag c)) (sym (r .head))
     (record {
-      sound = ap (first (faulty s)) walk ∙ none-first (faulty s) (nodeOf s d h) [] .1 (its-fault s d at end id c r (type-kept 0 tag (omega arith) low c (g .2)), refl);
+      sound =
+          ap (first (faulty s)) walk ∙ none-first (faulty s) (nodeOf s d h) [] .1
+          (its-fault s d at end id c r (type-kept 0 tag (omega arith) low c (g .2)), refl);
       same = tree-plain s d h form ∙ (λ i. primitive (identifier-tag 0 tag (omega arith) low i) (r .contents i));
       past = its-end s d at end id c r;
       part = r .octets;
@@ -103,14 +103,17 @@ read-plain d s at end tag c rest w g e =
     })
 
 -- the order of a SET's members, by the octets that are read and by the tree
-set-order : (tag : Tag) (ts : Trees) (xs : List (List ℕ)) → tag .number < 31 → AllGood ts → xs ≡ encodings ts → (identifierOctet 1 tag ≡ 49 → ascending xs ≡ true) ↔ (tag ≡ setOf → Ascending (encodings ts))
+set-order : (tag : Tag) (ts : Trees) (xs : List (List ℕ)) → tag .number < 31 → AllGood ts → xs ≡ encodings ts
+    → (identifierOctet 1 tag ≡ 49 → ascending xs ≡ true) ↔ (tag ≡ setOf → Ascending (encodings ts))
 set-order tag ts xs low g p =
     let a = ascending-same ts g in (
       (λ f e. a .0 (sym (ap ascending p) ∙ f (ap (identifierOctet 1) e))),
       λ f e. ap ascending p ∙ a .1 (f (sym (identifier-tag 1 tag (omega arith) low) ∙ ap tagOf e)),
     )
 
-read-list : (d : ℕ) → ReadsAll d → (s : List ℕ) (at end : ℕ) (tag : Tag) (ts : Trees) (rest : List ℕ) → end ≤ length s → Good (constructed tag ts) → height (constructed tag ts) ≤ suc d → octetsFrom s at (end - at) ≡ encode (constructed tag ts) ++ rest → Here s (suc d) at (constructed tag ts) (headOf s at end)
+read-list : (d : ℕ) → ReadsAll d → (s : List ℕ) (at end : ℕ) (tag : Tag) (ts : Trees) (rest : List ℕ) → end ≤ length s
+    → Good (constructed tag ts) → height (constructed tag ts) ≤ suc d → octetsFrom s at (end - at) ≡ encode (constructed tag ts) ++ rest
+    → Here s (suc d) at (constructed tag ts) (headOf s at end)
 unfolding Good encode height Ordered outline
 read-list d all s at end tag ts rest w g k e =
     let id = identifierOctet 1 tag in
@@ -127,7 +130,9 @@ read-list d all s at end tag ts rest w g k e =
     let here = none-first (unordered s) (nodeOf s d h) (joined (elementsOf s d) (childrenOf s (h .body) (h .end))) in
     subst (Here s (suc d) at (constructed tag ts)) (sym (r .head))
     (record {
-      sound = ap (first (faulty s)) walk ∙ none-first (faulty s) (nodeOf s d h) (joined (elementsOf s d) (childrenOf s (h .body) (h .end))) .1 (its-fault s d at end id c r (type-kept 1 tag (omega arith) low c (g .2)), b .sound);
+      sound =
+          ap (first (faulty s)) walk ∙ none-first (faulty s) (nodeOf s d h) (joined (elementsOf s d) (childrenOf s (h .body) (h .end))) .1
+          (its-fault s d at end id c r (type-kept 1 tag (omega arith) low c (g .2)), b .sound);
       same = tree-list s d h form ∙ (λ i. constructed (identifier-tag 1 tag (omega arith) low i) (b .same i));
       past = its-end s d at end id c r;
       part = r .octets;
@@ -138,7 +143,8 @@ read-list d all s at end tag ts rest w g k e =
       lines =
           λ depth k.
           ap (map lineOf) walk
-          ∙ (λ i. its-line s d at end id c r depth k i ∷ (b .lines (suc depth) (omega arith) ∙ ap (outlineAll ts (suc depth)) (its-body s d at end id c r)) i);
+          ∙ (λ i. its-line s d at end id c r depth k i ∷
+          (b .lines (suc depth) (omega arith) ∙ ap (outlineAll ts (suc depth)) (its-body s d at end id c r)) i);
     })
 
 read-one : (d : ℕ) → ReadsAll d → ReadsOne (suc d)
@@ -151,7 +157,8 @@ read-none : (d : ℕ) (s : List ℕ) (at : ℕ) → Back s d at nothing []
 unfolding treesOf encodings AllOrdered outlineAll first
 read-none d s at = record { sound = refl; same = refl; parts = refl; order = ((λ x. tt), λ x. refl); lines = λ depth k. refl }
 
-read-next : (d : ℕ) (s : List ℕ) (at : ℕ) (t : Tree) (ts : Trees) (h : Head) (hs : List Head) → Here s d at t h → Back s d (h .end) ts hs → Back s d at (t then ts) (h ∷ hs)
+read-next : (d : ℕ) (s : List ℕ) (at : ℕ) (t : Tree) (ts : Trees) (h : Head) (hs : List Head) → Here s d at t h → Back s d (h .end) ts hs
+    → Back s d at (t then ts) (h ∷ hs)
 unfolding treesOf encodings AllOrdered outlineAll
 read-next d s at t ts h hs one more =
     let join = none-join (unordered s) (elementsOf s d h) (joined (elementsOf s d) hs) in
@@ -176,13 +183,15 @@ read-all d one s at end nothing w g k e =
     rw (children-done s at end (omega arith)) (read-none d s at)
 read-all d one s at end (t then ts) w g k e =
     let h = one s at end t (encodeAll ts) w (g .0) (omega arith) e in
-    let n : end - at ≡ length (encode t) + length (encodeAll ts) = sym (octets-long s at (end - at)) ∙ (ap length e ∙ length-append (encode t) (encodeAll ts)) in
+    let n : end - at ≡ length (encode t) + length (encodeAll ts) =
+    sym (octets-long s at (end - at)) ∙ (ap length e ∙ length-append (encode t) (encodeAll ts)) in
     let z = encode-some t in
     let p = h .past in
     let y : end - headOf s at end .end ≡ end - at - length (encode t) = omega arith in
-    let rest = part-same s (headOf s at end .end) (at + length (encode t)) (end - headOf s at end .end) (end - at - length (encode t)) p y ∙ part-cut s at (end - at) (encode t) (encodeAll ts) e .1 in
+    let rest = part-same s _ _ _ _ p y ∙ part-cut s at (end - at) (encode t) (encodeAll ts) e .1 in
     rw (children-next s at end (omega arith))
-    (read-next d s at t ts (headOf s at end) (childrenOf s (headOf s at end .end) end) h (read-all d one s (headOf s at end .end) end ts w (g .1) (omega arith) rest))
+    (read-next d s at t ts (headOf s at end) (childrenOf s (headOf s at end .end) end) h
+    (read-all d one s (headOf s at end .end) end ts w (g .1) (omega arith) rest))
 
 height-some : (t : Tree) → height t ≤ 0 → ⊥
 unfolding height

@@ -34,7 +34,9 @@ module _ (s : List ℕ) (at end : ℕ) where
       let b = form-none s (elementsOf s 16 (headOf s at end)) in
       ((λ f. let g = a .0 f in (g .0, b .0 (g .1))), λ f. a .1 (f .0, b .1 (f .1)))
 
-  stretch-both : (stretchSoundness s at end ≡ Sound) ↔ ((headOf s at end .end ≡ end) × None (faulty s) (elementsOf s 16 (headOf s at end)) × None (unordered s) (elementsOf s 16 (headOf s at end)))
+  stretch-both : (stretchSoundness s at end ≡ Sound)
+      ↔ ((headOf s at end .end ≡ end)
+      × None (faulty s) (elementsOf s 16 (headOf s at end)) × None (unordered s) (elementsOf s 16 (headOf s at end)))
   stretch-both =
       let a = stretch-whole (λ v. v ≡ Sound) s at end (λ f. let n : _≡_ {A = ℕ} 0 1 = cc in omega arith) in
       let b = sound-none s (elementsOf s 16 (headOf s at end)) in
@@ -117,7 +119,14 @@ unordered-all s o = (
 -- ---- the statements
 
 pub exactly : Exactly
-exactly = record { sound-exactly = sound-all; unordered-exactly = unordered-all; faultless-exactly = faultless-all; stretch-sound = sound-of; stretch-faultless = faultless-of }
+exactly =
+    record {
+      sound-exactly = sound-all;
+      unordered-exactly = unordered-all;
+      faultless-exactly = faultless-all;
+      stretch-sound = sound-of;
+      stretch-faultless = faultless-of;
+    }
 
 pub faithful : Faithful
 faithful =

@@ -2,7 +2,8 @@
 --     none-first, none-join                     the first element of a walk, and two walks one behind the other
 --     form-none, sound-none                     what a walk that finds nothing gives: no refusal 4; no refusal at all
 --     stretch-whole                             the verdict on the outermost element is that on its walk
---     elements-plain, elements-list             an element's walk by its form
+--     tree-plain, tree-list                     an element's tree by its form
+--     elements-plain, elements-list             its walk by its form
 --     ok-fault, fault-ok, deep-none             an element is not faulty exactly if it is sound by itself; below the last level each is
 --     ordered-plain, ordered-list               when it is no SET out of order
 -- Assumes nothing.
@@ -14,8 +15,10 @@ use Prim.Native.Nat.{ℕ, suc}
 use native.Mathlib.Omega.{arith}
 use lib.Dec.{eqb}
 use borrow.Author.Tests.{ne-eqb, eqb-true, eqb-false}
+use Rattle.trees.specs.Trees.{primitive, constructed}
+use Rattle.trees.specs.Reading.{tagOf, treesOf, treeOf}
 use Rattle.der.specs.Header.{headOf, childrenOf}
-use Rattle.der.specs.Contents.{constructed, elementOk}
+use Rattle.der.specs.Contents.{constructed as isConstructed, contentsOf, elementOk}
 use Rattle.der.specs.Order.{ascendFrom, ascending, octetsOf}
 use Rattle.der.specs.Elements.{Node, elementsOf, membersOf}
 use Rattle.der.specs.Soundness.{faulty, unordered, Found, first, judge, soundness, stretchSoundness, refusalNumber}
@@ -69,11 +72,14 @@ sound-none s ns = go (first (faulty s) ns) (first (unordered s) ns)
     go (found p) b = ((λ e. (cc, cc)), λ e. cc)
 
 -- the outermost element, for any verdict that a part torn before its end does not get
-pub stretch-whole : (Q : Soundness → Type 0) (s : List ℕ) (at end : ℕ) → (Q (Unsound at) → ⊥) → Q (stretchSoundness s at end) ↔ ((headOf s at end .end ≡ end) × Q (soundness s (elementsOf s 16 (headOf s at end))))
+pub stretch-whole : (Q : Soundness → Type 0) (s : List ℕ) (at end : ℕ) → (Q (Unsound at) → ⊥)
+    → Q (stretchSoundness s at end) ↔ ((headOf s at end .end ≡ end) × Q (soundness s (elementsOf s 16 (headOf s at end))))
 unfolding stretchSoundness
 stretch-whole Q s at end n = go (eqb (headOf s at end .end) end) refl
   where
-    go : (b : Bool) → eqb (headOf s at end .end) end ≡ b → Q (cond b (soundness s (elementsOf s 16 (headOf s at end))) (Unsound at)) ↔ ((headOf s at end .end ≡ end) × Q (soundness s (elementsOf s 16 (headOf s at end))))
+    go : (b : Bool) → eqb (headOf s at end .end) end ≡ b
+        → Q (cond b (soundness s (elementsOf s 16 (headOf s at end))) (Unsound at))
+        ↔ ((headOf s at end .end ≡ end) × Q (soundness s (elementsOf s 16 (headOf s at end))))
     go true e = ((λ q. (eqb-true (headOf s at end .end) end e, q)), λ q. q .1)
     go false e = ((λ q. absurd (n q)), λ q. absurd (eqb-false (headOf s at end .end) end e (q .0)))
 
@@ -83,11 +89,20 @@ module _ (s : List ℕ) (d : ℕ) (h : Head) where
   abbrev pub nodeOf : Node
   nodeOf = record { head = h; levels = suc d }
 
-  pub elements-plain : constructed (h .tag) ≡ false → elementsOf s (suc d) h ≡ nodeOf ∷ []
+  pub tree-plain : isConstructed (h .tag) ≡ false → treeOf s (suc d) h ≡ primitive (tagOf (h .tag)) (contentsOf s h)
+  unfolding treeOf
+  tree-plain e = rw e
+
+  pub tree-list : isConstructed (h .tag) ≡ true
+      → treeOf s (suc d) h ≡ constructed (tagOf (h .tag)) (treesOf (treeOf s d) (childrenOf s (h .body) (h .end)))
+  unfolding treeOf
+  tree-list e = rw e
+
+  pub elements-plain : isConstructed (h .tag) ≡ false → elementsOf s (suc d) h ≡ nodeOf ∷ []
   unfolding elementsOf
   elements-plain e = rw e
 
-  pub elements-list : constructed (h .tag) ≡ true → elementsOf s (suc d) h ≡ nodeOf ∷ membersOf s d (h .body) (h .end)
+  pub elements-list : isConstructed (h .tag) ≡ true → elementsOf s (suc d) h ≡ nodeOf ∷ membersOf s d (h .body) (h .end)
   unfolding elementsOf
   elements-list e = rw e
 
@@ -101,7 +116,7 @@ module _ (s : List ℕ) (d : ℕ) (h : Head) where
       go true f = refl
       go false f = sym f
 
-  pub ordered-plain : constructed (h .tag) ≡ false → unordered s nodeOf ≡ false
+  pub ordered-plain : isConstructed (h .tag) ≡ false → unordered s nodeOf ≡ false
   unfolding ascendFrom
   ordered-plain e = rw e (go (eqb (h .tag) 49))
     where
@@ -109,7 +124,8 @@ module _ (s : List ℕ) (d : ℕ) (h : Head) where
       go true = refl
       go false = refl
 
-  pub ordered-list : constructed (h .tag) ≡ true → (unordered s nodeOf ≡ false) ↔ (h .tag ≡ 49 → ascending (map (octetsOf s) (childrenOf s (h .body) (h .end))) ≡ true)
+  pub ordered-list : isConstructed (h .tag) ≡ true → (unordered s nodeOf ≡ false)
+      ↔ (h .tag ≡ 49 → ascending (map (octetsOf s) (childrenOf s (h .body) (h .end))) ≡ true)
   ordered-list e = rw e (go (eqb (h .tag) 49) refl (ascending (map (octetsOf s) (childrenOf s (h .body) (h .end)))))
     where
       go : (b : Bool) → eqb (h .tag) 49 ≡ b → (c : Bool) → ((b && not c) ≡ false) ↔ (h .tag ≡ 49 → c ≡ true)

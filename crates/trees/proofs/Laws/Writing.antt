@@ -21,12 +21,11 @@ use Rattle.der.proofs.Laws.Header.{head-forward}
 use Rattle.der.proofs.Laws.Walking.{children-chain}
 use Rattle.octets.specs.Octets.{octetAt, octetsFrom}
 use Rattle.octets.proofs.Laws.Tests.{and-l}
-use Rattle.trees.proofs.Laws.Parts.{part-same, part-meet}
+use Rattle.octets.proofs.Laws.Parts.{part-same, part-meet}
 use Rattle.trees.proofs.Laws.Identifier.{form-octet, octet-tag, kept-type}
 use Rattle.trees.proofs.Laws.Lengths.{part-octets}
 use Rattle.trees.proofs.Laws.Element.{head-passed, element-written}
-use Rattle.trees.proofs.Laws.Walks.{None, none-first, none-join, nodeOf, fault-ok, deep-none}
-use Rattle.trees.proofs.Laws.Reading.{tree-plain, tree-list}
+use Rattle.trees.proofs.Laws.Walks.{None, none-first, none-join, nodeOf, tree-plain, tree-list, fault-ok, deep-none}
 
 -- a tree of at most d levels that encodes to the octets from at to end
 pub record Wrote (s : List ℕ) (d at end : ℕ) (t : Tree) : Type 0 where
@@ -41,10 +40,14 @@ record WroteAll (s : List ℕ) (d at end : ℕ) (ts : Trees) : Type 0 where
   octets : encodeAll ts ≡ octetsFrom s at (end - at)
 
 abbrev pub WritesOne : ℕ → Type 0
-WritesOne d = (s : List ℕ) → Octets s → (at end : ℕ) → None (faulty s) (elementsOf s d (headOf s at end)) → Wrote s d at (headOf s at end .end) (treeOf s d (headOf s at end))
+WritesOne d =
+    (s : List ℕ) → Octets s → (at end : ℕ) → None (faulty s) (elementsOf s d (headOf s at end))
+    → Wrote s d at (headOf s at end .end) (treeOf s d (headOf s at end))
 
 abbrev WritesAll : ℕ → Type 0
-WritesAll d = (s : List ℕ) → Octets s → (at end : ℕ) → at ≤ end → None (faulty s) (membersOf s d at end) → WroteAll s d at end (treesOf (treeOf s d) (childrenOf s at end))
+WritesAll d =
+    (s : List ℕ) → Octets s → (at end : ℕ) → at ≤ end → None (faulty s) (membersOf s d at end)
+    → WroteAll s d at end (treesOf (treeOf s d) (childrenOf s at end))
 
 -- ---- one element
 
@@ -64,7 +67,8 @@ module _ (s : List ℕ) (o : Octets s) (d at : ℕ) (tag : tagOk (octetAt s at) 
     its-length : LengthOk c
     its-length = subst LengthOk (sym (e ∙ its-contents)) (element-written s at o len .0)
 
-    its-octets : (b : Bool) → isConstructed (octetAt s at) ≡ b → element (identifierOctet (cond b 1 0) (tagOf (octetAt s at))) c ≡ octetsFrom s at (here .end - at)
+    its-octets : (b : Bool) → isConstructed (octetAt s at) ≡ b
+        → element (identifierOctet (cond b 1 0) (tagOf (octetAt s at))) c ≡ octetsFrom s at (here .end - at)
     its-octets b f =
         let n : headerSize s at + lengthOf s at ≡ at + (headerSize s at + lengthOf s at) - at = omega arith in
         (λ i. element (form-octet (octetAt s at) (o at) b f i) ((e ∙ its-contents) i))
@@ -76,27 +80,42 @@ module _ (s : List ℕ) (o : Octets s) (d at : ℕ) (tag : tagOk (octetAt s at) 
     write-plain f =
         subst (Wrote s (suc d) at (here .end)) (sym (tree-plain s d here f))
         (record {
-          good = (octet-tag (octetAt s at) (o at) tag, its-length (contentsOf s here) refl, kept-type (octetAt s at) (o at) (contentsOf s here) false f kept, part-octets s o (here .body) (here .end - here .body));
+          good = (
+            octet-tag (octetAt s at) (o at) tag,
+            its-length (contentsOf s here) refl,
+            kept-type (octetAt s at) (o at) (contentsOf s here) false f kept,
+            part-octets s o (here .body) (here .end - here .body),
+          );
           high = omega arith;
           octets = its-octets (contentsOf s here) refl false f;
         })
 
-    write-list : isConstructed (octetAt s at) ≡ true → WroteAll s d (here .body) (here .end) (treesOf (treeOf s d) (childrenOf s (here .body) (here .end))) → Wrote s (suc d) at (here .end) (treeOf s (suc d) here)
+    write-list : isConstructed (octetAt s at) ≡ true
+        → WroteAll s d (here .body) (here .end) (treesOf (treeOf s d) (childrenOf s (here .body) (here .end)))
+        → Wrote s (suc d) at (here .end) (treeOf s (suc d) here)
     unfolding Good height encode
     write-list f w =
         let h = w .high in
         subst (Wrote s (suc d) at (here .end)) (sym (tree-list s d here f))
         (record {
-          good = (octet-tag (octetAt s at) (o at) tag, its-length (encodeAll (treesOf (treeOf s d) (childrenOf s (here .body) (here .end)))) (w .octets), kept-type (octetAt s at) (o at) (contentsOf s here) true f kept, w .good);
+          good = (
+            octet-tag (octetAt s at) (o at) tag,
+            its-length (encodeAll (treesOf (treeOf s d) (childrenOf s (here .body) (here .end)))) (w .octets),
+            kept-type (octetAt s at) (o at) (contentsOf s here) true f kept,
+            w .good,
+          );
           high = omega arith;
           octets = its-octets (encodeAll (treesOf (treeOf s d) (childrenOf s (here .body) (here .end)))) (w .octets) true f;
         })
 
-  write-here : WritesAll d → elementOk s here ≡ true → None (faulty s) (joined (elementsOf s d) (heldBy s here)) → Wrote s (suc d) at (here .end) (treeOf s (suc d) here)
+  write-here : WritesAll d → elementOk s here ≡ true → None (faulty s) (joined (elementsOf s d) (heldBy s here))
+      → Wrote s (suc d) at (here .end) (treeOf s (suc d) here)
   unfolding elementOk
   write-here all k e = go (isConstructed (octetAt s at)) refl e
     where
-      go : (b : Bool) → isConstructed (octetAt s at) ≡ b → None (faulty s) (joined (elementsOf s d) (cond b (childrenOf s (here .body) (here .end)) [])) → Wrote s (suc d) at (here .end) (treeOf s (suc d) here)
+      go : (b : Bool) → isConstructed (octetAt s at) ≡ b
+          → None (faulty s) (joined (elementsOf s d) (cond b (childrenOf s (here .body) (here .end)) []))
+          → Wrote s (suc d) at (here .end) (treeOf s (suc d) here)
       go false f n = write-plain k f
       go true f n = write-list k f (all s o (here .body) (here .end) (omega arith) n)
 
@@ -107,7 +126,9 @@ write-one d all s o at end e =
     let f = none-first (faulty s) (nodeOf s d h) (joined (elementsOf s d) (heldBy s h)) .0 e in
     let ok = fault-ok s d h (f .0) in
     let p = head-passed s at end (and-l (h .sound) (leb 64 (h .tag) || universalOk (h .tag) (contentsOf s h)) ok) in
-    subst (λ (h : Head). elementOk s h ≡ true → None (faulty s) (joined (elementsOf s d) (heldBy s h)) → Wrote s (suc d) at (h .end) (treeOf s (suc d) h)) (sym (p .head))
+    subst
+    (λ (h : Head). elementOk s h ≡ true → None (faulty s) (joined (elementsOf s d) (heldBy s h)) → Wrote s (suc d) at (h .end) (treeOf s (suc d) h))
+    (sym (p .head))
     (write-here s o d at (p .tag) (p .length) all)
     ok
     (f .1)
@@ -115,7 +136,8 @@ write-one d all s o at end e =
 -- ---- several, one behind the other
 
 module _ (d : ℕ) (one : WritesOne d) (s : List ℕ) (o : Octets s) (end : ℕ) where
-  write-all : {at : ℕ} {hs : List Head} → Chain s end at hs → at ≤ end → None (faulty s) (joined (elementsOf s d) hs) → WroteAll s d at end (treesOf (treeOf s d) hs)
+  write-all : {at : ℕ} {hs : List Head} → Chain s end at hs → at ≤ end → None (faulty s) (joined (elementsOf s d) hs)
+      → WroteAll s d at end (treesOf (treeOf s d) hs)
   unfolding treesOf encodeAll AllGood heightAll octetsFrom
   write-all done l e =
       let n : end - end ≡ 0 = omega arith in

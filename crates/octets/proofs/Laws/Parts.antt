@@ -29,16 +29,21 @@ part-join s at (suc m) n =
     part-same s at at _ _ refl e
     ∙ ap (λ (l : List ℕ). octetAt s at ∷ l) (part-join s (at + 1) m n ∙ ap (λ (i : ℕ). octetsFrom s (at + 1) m ++ octetsFrom s i n) f)
 
-pub part-meet : (s : List ℕ) (at mid end : ℕ) → at ≤ mid → mid ≤ end → octetsFrom s at (mid - at) ++ octetsFrom s mid (end - mid) ≡ octetsFrom s at (end - at)
+pub part-meet : (s : List ℕ) (at mid end : ℕ) → at ≤ mid → mid ≤ end
+    → octetsFrom s at (mid - at) ++ octetsFrom s mid (end - mid) ≡ octetsFrom s at (end - at)
 part-meet s at mid end l k =
     let p : mid ≡ at + (mid - at) = omega arith in
     let q : mid - at + (end - mid) ≡ end - at = omega arith in
-    (λ i. octetsFrom s at (mid - at) ++ octetsFrom s (p i) (end - mid)) ∙ (sym (part-join s at (mid - at) (end - mid)) ∙ part-same s at at _ _ refl q)
+    (λ i. octetsFrom s at (mid - at) ++ octetsFrom s (p i) (end - mid))
+    ∙ sym (part-join s at (mid - at) (end - mid)) ∙ part-same s at at _ _ refl q
 
-pub part-cut : (s : List ℕ) (at n : ℕ) (xs ys : List ℕ) → octetsFrom s at n ≡ xs ++ ys → (octetsFrom s at (length xs) ≡ xs) × (octetsFrom s (at + length xs) (n - length xs) ≡ ys)
+pub part-cut : (s : List ℕ) (at n : ℕ) (xs ys : List ℕ) → octetsFrom s at n ≡ xs ++ ys
+    → (octetsFrom s at (length xs) ≡ xs) × (octetsFrom s (at + length xs) (n - length xs) ≡ ys)
 unfolding octetsFrom
 part-cut s at n [] ys e = (refl, part-same s (at + 0) at (n - 0) n (omega arith) (omega arith) ∙ e)
 part-cut s at zero (x ∷ xs) ys e = absurd (let f : 0 ≡ suc (length (xs ++ ys)) = ap length e in omega arith)
 part-cut s at (suc n) (x ∷ xs) ys e =
     let r = part-cut s (at + 1) n xs ys (tail-same _ _ _ _ e) in
-    ((λ i. head-same _ _ _ _ e i ∷ r .0 i), part-same s (at + suc (length xs)) (at + 1 + length xs) (suc n - suc (length xs)) (n - length xs) (omega arith) (omega arith) ∙ r .1)
+    let p : at + suc (length xs) ≡ at + 1 + length xs = omega arith in
+    let q : suc n - suc (length xs) ≡ n - length xs = omega arith in
+    ((λ i. head-same _ _ _ _ e i ∷ r .0 i), part-same s _ _ _ _ p q ∙ r .1)
