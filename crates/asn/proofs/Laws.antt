@@ -2,6 +2,7 @@
 pub mod Leaf
 pub mod Rows
 pub mod Tables
+pub mod Choosing
 pub mod Steps
 pub mod Roots
 pub mod Answers

@@ -9,6 +9,10 @@ use Rattle.asn.specs.Grammar.{Test, Form, Inside, Slots}
 use Rattle.asn.specs.Grammar.Form.{none, alt}
 use Rattle.asn.specs.Grammar.Inside.{leaf, parts, set}
 use Rattle.asn.specs.Grammar.Slots.{done, one, opt, many}
+use Rattle.asn.specs.Choosing.{Alternative, Field}
+use Rattle.asn.specs.Choosing.Alternative.{nobody, holding}
+use Rattle.asn.specs.Choosing.Field.{nowhere, here}
+use Rattle.asn.specs.declared.fitting.Found.{Found}
 use Rattle.asn.specs.Module.{any, booleanTrue, integer, natural, bitString, namedBits, octetString, oid, sequenceOf, implicit, explicit, free, algorithmIdentifier, attributeTypeAndValue, relativeDistinguishedName, name, time, validity, subjectPublicKeyInfo, extension, extensions, version, tbsCertificate, certificate, generalName, generalNames, authorityKeyIdentifier, basicConstraints, subjectKeyIdentifier, keyUsage, extKeyUsage, policyQualifierInfo, policyInformation, certificatePolicies, accessDescription, authorityInfoAccess, distributionPointName, distributionPoint, cRLDistributionPoints, ocspNoCheck, judged}
 
 -- the types that have rows of their own, in the order of the rows
@@ -132,7 +136,7 @@ insideOf r =
 
 -- what a row says, with the type of the next row
 abbrev pub formOf : ℕ → Form → Form
-formOf r f = cond (eqb (r % 128) 0) none (alt (r / 256) (insideOf r) f)
+formOf r f = cond (eqb r 0) none (alt (r / 256) (insideOf r) f)
 
 -- what a field's row says, with the fields from the next row on
 abbrev pub slotsOf : ℕ → Slots → Slots
@@ -141,6 +145,15 @@ slotsOf r p =
     (cond (eqb (r / 256) 1) (one (formAt (r % 256)) p)
     (cond (eqb (r / 256) 2) (opt (formAt (r % 256)) p)
     (many (formAt (r % 256)) p)))
+
+-- ---- what is found in the tables
+
+-- the alternative by its row, which is 0 if there is none
+abbrev pub alternativeAt : ℕ → Alternative
+alternativeAt r = cond (eqb r 0) nobody (holding (insideOf r))
+
+abbrev pub fieldAt : Found → Field
+fieldAt x = cond (eqb (x .row) 0) nowhere (here (insideOf (x .row)) (slotsAt (x .next)))
 
 -- ---- tables that say so
 

@@ -5,13 +5,17 @@ use crate::table::ROWS;
 use crate::table::SLOTS;
 use der::Head;
 ghost use mathlib.Core.Path.{_≡_};
-ghost use Prim.Native.Nat.{_≤_, _<_};
+ghost use mathlib.Core.Bool.{cond, _||_};
+ghost use Prim.Native.Nat.{_+_, _/_, _%_, _<_};
 ghost use lib.ListN.{getD};
+ghost use lib.Dec.{eqb, ltb};
+ghost use Rattle.octets.specs.Numbers.{largest};
 ghost use Rattle.der.specs.Header.{childrenOf};
-ghost use Rattle.asn.specs.Grammar.{inOrder, takes, fits, follows, isFits};
+ghost use Rattle.asn.specs.Grammar.{Form, Slots, inOrder, takes, follows, isFits};
+ghost use Rattle.asn.specs.Choosing.{alternativeFor, fieldFor, mayStand, lacking};
 ghost use Rattle.asn.specs.Module.{valueOf};
 ghost use Rattle.asn.specs.Answers.{onlyElement, certificateVerdict, valueOk};
-ghost use Rattle.asn.specs.Table.{Tables, formAt, slotsAt};
+ghost use Rattle.asn.specs.Table.{Tables, types, allForms, slotRows, said, formOf, formAt, slotsOf, slotsAt, alternativeAt, fieldAt};
 
 // What becomes of an element against a type.
 pub enum Verdict {
@@ -44,44 +48,109 @@ fn takes_tag(wanted: usize, tag: u8) -> bool
     (wanted == 0) | (wanted == octets::wide(tag))
 }
 
-// Whether a SET's members ascend, if they have not been judged already.
-fn in_order(s: &[u8], h: Head) -> bool
-    ensures { λ r. ⌜ r ≡ inOrder (now (s .entry)) h ⌝ }
+// The row of the alternative that takes a tag, of the type at row n; 0 if there is none: the 0 that ends a type takes
+// any tag.
+fn find_alternative(rows: &[u16], n: usize, tag: u8) -> usize
+    requires { ⌜ said formOf Form.none (now rows) ≡ allForms types ⌝ }
+    ensures { λ r. ⌜ alternativeAt r ≡ alternativeFor (formAt n) tag ⌝ }
 {
-    if h.tag == 49 {
+    let mut m = n;
+    loop {
+        let r = row_at(rows, m);
+        if takes_tag(r / 256, tag) {
+            return r;
+        }
+        m += 1;
+    }
+}
+
+// Where an element belongs: the row of the alternative that takes it, 0 if there is none, and the row of the fields
+// that the elements after it are held to.
+struct Found {
+    row: usize,
+    next: usize,
+}
+
+// The row of the fields that are left when the field at row j has taken an element.
+fn row_after(kind: usize, j: usize) -> usize
+    requires { ⌜ j < largest ⌝ }
+    ensures { λ r. ⌜ r ≡ cond (ltb kind 3) (j + 1) j ⌝ }
+{
+    if kind < 3 { j + 1 } else { j }
+}
+
+// The field, of those from row k on, that takes a tag. None does behind a field that must be there.
+fn find_field(rows: &[u16], slots: &[u16], k: usize, tag: u8) -> Found
+    requires { ⌜ Tables (now rows) (now slots) ⌝ }
+    ensures { λ r. ⌜ fieldAt r ≡ fieldFor (slotsAt k) tag ⌝ }
+{
+    let mut j = k;
+    loop {
+        let t = row_at(slots, j);
+        let kind = t / 256;
+        if kind == 0 {
+            return Found { row: 0, next: j };
+        }
+        let row = find_alternative(rows, t % 256, tag);
+        if !(row == 0) | (kind == 1) {
+            return Found {
+                row: row,
+                next: row_after(kind, j),
+            };
+        }
+        j += 1;
+    }
+}
+
+// What becomes of the contents of the element at `outer` where they end before the fields from row k on.
+fn end_before(slots: &[u16], k: usize, outer: usize) -> Verdict
+    requires { ⌜ said slotsOf Slots.done (now slots) ≡ slotRows ⌝ }
+    ensures { λ r. ⌜ r ≡ lacking (slotsAt k) outer ⌝ }
+{
+    let mut j = k;
+    loop {
+        let kind = row_at(slots, j) / 256;
+        if kind == 0 {
+            return Verdict::Fits;
+        }
+        if kind == 1 {
+            return Verdict::Wrong(outer);
+        }
+        j += 1;
+    }
+}
+
+// Whether the members of h ascend, if its row says that it is a SET. With its own tag it was judged with all of DER.
+fn in_order(s: &[u8], row: usize, h: Head) -> bool
+    ensures { λ r. ⌜ r ≡ (eqb (row / 128 % 2) 0 || inOrder (now (s .entry)) h) ⌝ }
+{
+    if (row / 128 % 2 == 0) | (h.tag == 49) {
         return true;
     }
     der::ascending(s, h.body, h.end)
 }
 
-// The element h against the type at row n: its alternatives are tried in turn.
-fn fit(s: &[u8], rows: &[u16], slots: &[u16], n: usize, h: Head) -> Verdict
-    requires { ⌜ Tables (now rows) (now slots) × (h .at < h .body) × (h .body ≤ h .end) ⌝ }
-    ensures { λ r. ⌜ r ≡ fits (formAt n) (now (s .entry)) h ⌝ }
+// Whether the element h may stand where the alternative at this row takes it, 0 for none, whatever its members are.
+fn may_stand(s: &[u8], row: usize, h: Head) -> bool
+    ensures { λ r. ⌜ r ≡ mayStand (alternativeAt row) (now (s .entry)) h ⌝ }
 {
-    let mut m = n;
-    loop {
-        let r = row_at(rows, m);
-        let inside = r % 128;
-        if inside == 0 {
-            return Verdict::Stranger;
-        }
-        if takes_tag(r / 256, h.tag) {
-            if inside < 12 {
-                if passes_test(s, inside, h.tag, h.body, octets::minus(h.end, h.body)) {
-                    return Verdict::Fits;
-                }
-                return Verdict::Wrong(h.at);
-            }
-            if r / 128 % 2 == 0 {
-                return walk(s, rows, slots, inside - 12, h.at, h.body, h.end);
-            }
-            if in_order(s, h) {
-                return walk(s, rows, slots, inside - 12, h.at, h.body, h.end);
-            }
-            return Verdict::Wrong(h.at);
-        }
-        m += 1;
+    if row == 0 {
+        return false;
+    }
+    let inside = row % 128;
+    if inside < 12 {
+        return passes_test(s, inside, h.tag, h.body, octets::minus(h.end, h.body));
+    }
+    in_order(s, row, h)
+}
+
+fn is_fits(v: Verdict) -> bool
+    ensures { λ r. ⌜ r ≡ isFits v ⌝ }
+{
+    match v {
+        Verdict::Stranger => false,
+        Verdict::Fits => true,
+        Verdict::Wrong(_) => false,
     }
 }
 
@@ -100,40 +169,23 @@ fn walk(
 {
     let mut j = k;
     let mut at = from;
-    loop {
-        let t = row_at(slots, j);
-        let kind = t / 256;
-        if kind == 0 {
-            if at < end {
-                return Verdict::Wrong(at);
-            }
-            return Verdict::Fits;
+    while at < end {
+        let h = der::head_at(s, at, end);
+        let found = find_field(rows, slots, j, h.tag);
+        let inside = found.row % 128;
+        if !may_stand(s, found.row, h) {
+            return Verdict::Wrong(h.at);
         }
-        if at < end {
-            let h = der::head_at(s, at, end);
-            let v = fit(s, rows, slots, t % 256, h);
-            match v {
-                Verdict::Wrong(p) => return Verdict::Wrong(p),
-                Verdict::Fits => {
-                    at = h.end;
-                    if kind < 3 {
-                        j += 1;
-                    }
-                }
-                Verdict::Stranger => {
-                    if kind == 1 {
-                        return Verdict::Wrong(at);
-                    }
-                    j += 1;
-                }
+        if inside >= 12 {
+            let v = walk(s, rows, slots, inside - 12, h.at, h.body, h.end);
+            if !is_fits(v) {
+                return v;
             }
-        } else {
-            if kind == 1 {
-                return Verdict::Wrong(outer);
-            }
-            j += 1;
         }
+        at = h.end;
+        j = found.next;
     }
+    end_before(slots, j, outer)
 }
 
 // The elements from `at` to `end` as one element, and no more: a Certificate, for 0, or the value of the extension
@@ -146,16 +198,6 @@ fn only_element(s: &[u8], slot: usize, at: usize, end: usize) -> Verdict
     let roots = ROOTS;
     let root = row_at(&roots, slot);
     walk(s, &rows, &slots, root, at, at, end)
-}
-
-fn is_fits(v: Verdict) -> bool
-    ensures { λ r. ⌜ r ≡ isFits v ⌝ }
-{
-    match v {
-        Verdict::Stranger => false,
-        Verdict::Fits => true,
-        Verdict::Wrong(_) => false,
-    }
 }
 
 // Whether the octets, once they are sound DER, are a certificate; if not, the place where they depart from one.

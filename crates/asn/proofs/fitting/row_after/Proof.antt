@@ -1,0 +1,17 @@
+-- `asn::fitting::row_after` meets its contract. Assumes nothing.
+use borrow.Author.Needs.{needs}
+use borrow.Author.Tests.{lt-ltb, le-ltb}
+use Rattle.asn.proofs.fitting.row_after.Statement.{statement}
+use Rattle.asn.proofs.fitting.row_after.Tie as tie
+
+add-result : tie.Need-add-result
+add-result c = search needs
+
+returns : tie.Need-returns
+returns c = rw (lt-ltb _ _ (c .if1 .taken))
+
+returns-2 : tie.Need-returns-2
+returns-2 c = rw (le-ltb _ _ (c .if1 .left))
+
+pub row-after-spec : {M : Type 1} → statement M
+row-after-spec = tie.close (tie.spec add-result returns returns-2)
