@@ -125,6 +125,26 @@ def antt(name, xs):
     return 'unfoldable pub %s : List ℕ\n%s =\n%s\n' % (name, name, '\n'.join(lines + [line + ' []']))
 
 
+def wrapped(names, start, gap, end, again):
+    """Names behind `start`, in lines of at most 140 characters; the next line starts with `again`."""
+    lines, line = [], start
+    for name in names:
+        if len(line + name + end) > 140:
+            lines.append(line[:-len(gap)].rstrip() + end)
+            line = again
+        line += name + gap
+    return '\n'.join(lines + [line[:-len(gap)] + end]) + '\n'
+
+
+def using(module, names):
+    start = 'use Rattle.asn.specs.%s.{' % module
+    return wrapped(names, start, ', ', '}', start)
+
+
+def unfolding(names):
+    return wrapped(names, 'unfolding ', ' ', '', '    ')
+
+
 open(ROOT + '/proofs/Laws/Tables.antt', 'w').write('''-- The rows of src/table.rt say what specs/Table.antt has: antt reads the whole tables. Written by tools/grammar_table.py.
 --     tables-right, roots-right      the rows of the types and of their fields; the rows where the judged types begin
 -- Assumes nothing.
@@ -132,24 +152,20 @@ use mathlib.Core.Path.{_≡_, refl}
 use mathlib.Core.List.{List, [], _∷_, map}
 use Prim.Native.Nat.{ℕ}
 use Rattle.asn.specs.Grammar.{Form, Slots}
-use Rattle.asn.specs.Module.{judged, ''' + ', '.join(NAMES) + '''}
-use Rattle.asn.specs.Table.{Tables, types, alone, allForms, slotRows, formOf, slotsOf, said, formAt, slotsAt}
+''' + using('Module', ['judged'] + NAMES) + '''use Rattle.asn.specs.Table.{Tables, types, alone, allForms, slotRows, formOf, slotsOf, said, formAt, slotsAt}
 
 ''' + antt('rows', ROWS) + '\n' + antt('slots', SLOTS) + '\n' + antt('roots', ROOTS) + '''
 forms-right : said formOf Form.none rows ≡ allForms types
-unfolding rows types judged slotsAt slotRows ''' + ' '.join(NAMES) + '''
-forms-right = refl
+''' + unfolding('rows types judged slotsAt slotRows'.split() + NAMES) + '''forms-right = refl
 
 fields-right : said slotsOf Slots.done slots ≡ slotRows
-unfolding slots slotRows types judged formAt ''' + ' '.join(NAMES) + '''
-fields-right = refl
+''' + unfolding('slots slotRows types judged formAt'.split() + NAMES) + '''fields-right = refl
 
 pub tables-right : Tables rows slots
 tables-right = record { forms = forms-right; fields = fields-right }
 
 pub roots-right : map slotsAt roots ≡ map alone judged
-unfolding roots slotsAt slotRows types judged ''' + ' '.join(NAMES) + '''
-roots-right = refl
+''' + unfolding('roots slotsAt slotRows types judged'.split() + NAMES) + '''roots-right = refl
 
 pub none-right : slotsAt 0 ≡ alone Form.none
 unfolding slotsAt slotRows types

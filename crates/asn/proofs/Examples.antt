@@ -4,7 +4,8 @@ use mathlib.Core.List.{List, [], _∷_, map}
 use Prim.Native.Nat.{ℕ}
 use lib.ListN.{length}
 use Rattle.asn.specs.Grammar.{Form, fits}
-use Rattle.asn.specs.Module.{explicit, attributeTypeAndValue, relativeDistinguishedName, name, extension, extensions, version, otherName, generalName, generalNames, distributionPointName, distributionPoint, cRLDistributionPoints}
+use Rattle.asn.specs.Module.{explicit, attributeTypeAndValue, relativeDistinguishedName, name, extension, extensions, version}
+use Rattle.asn.specs.Module.{otherName, generalName, generalNames, distributionPointName, distributionPoint, cRLDistributionPoints}
 use Rattle.asn.specs.Answers.{onlyElement}
 use Rattle.asn.specs.declared.fitting.Verdict.{Verdict}
 use Rattle.asn.specs.declared.fitting.Verdict.the-variants.{Fits, Wrong}
@@ -47,5 +48,6 @@ table =
     ∷ []
 
 pub examples : map (λ (e : Example). onlyElement (e .type) (e .octets) 0 (length (e .octets))) table ≡ map (λ (e : Example). e .verdict) table
-unfolding table fits attributeTypeAndValue relativeDistinguishedName name extension extensions version otherName generalName generalNames distributionPointName distributionPoint cRLDistributionPoints headOf childrenOf childrenBy octetsFrom octetsLe ascendFrom arcsOk
+unfolding table fits attributeTypeAndValue relativeDistinguishedName name extension extensions version otherName generalName generalNames
+    distributionPointName distributionPoint cRLDistributionPoints headOf childrenOf childrenBy octetsFrom octetsLe ascendFrom arcsOk
 examples = refl

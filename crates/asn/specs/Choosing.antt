@@ -1,5 +1,5 @@
--- Which alternative of a type, and which field of a list, takes an element: its identifier octet alone says so. The interpreter goes by these, and
--- `proofs/Laws/Choosing.antt` that it comes to the same.
+-- Which alternative of a type, and which field of a list, takes an element: its identifier octet alone says so. The interpreter goes by them;
+-- `proofs/Laws/Choosing.antt` proves that this comes to what `Grammar` says.
 use mathlib.Core.Bool.{Bool, true, false, cond}
 use mathlib.Core.List.{List}
 use Prim.Native.Nat.{ℕ}

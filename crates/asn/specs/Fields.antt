@@ -3,7 +3,8 @@ use mathlib.Core.Path.{_≡_}
 use mathlib.Core.List.{List, [], _∷_, _++_}
 use Prim.Native.Nat.{ℕ}
 use Rattle.asn.specs.Grammar.{Form, Slots, fits, follows}
-use Rattle.asn.specs.Module.{explicit, free, integer, bitString, algorithmIdentifier, name, validity, subjectPublicKeyInfo, extensions, version, tbsCertificate}
+use Rattle.asn.specs.Module.{explicit, free, integer, bitString, algorithmIdentifier, name, validity, subjectPublicKeyInfo}
+use Rattle.asn.specs.Module.{extensions, version, tbsCertificate}
 use Rattle.asn.specs.declared.fitting.Verdict.the-variants.{Fits}
 use Rattle.der.specs.Header.{childrenOf}
 use Rattle.der.specs.declared.header.Head.{Head}

@@ -13,7 +13,12 @@ use Rattle.asn.specs.Choosing.{Alternative, Field}
 use Rattle.asn.specs.Choosing.Alternative.{nobody, holding}
 use Rattle.asn.specs.Choosing.Field.{nowhere, here}
 use Rattle.asn.specs.declared.fitting.Found.{Found}
-use Rattle.asn.specs.Module.{any, booleanTrue, integer, natural, bitString, namedBits, octetString, oid, sequenceOf, implicit, explicit, free, algorithmIdentifier, attributeTypeAndValue, relativeDistinguishedName, name, time, validity, subjectPublicKeyInfo, extension, extensions, version, tbsCertificate, certificate, generalName, generalNames, authorityKeyIdentifier, basicConstraints, subjectKeyIdentifier, keyUsage, extKeyUsage, policyQualifierInfo, policyInformation, certificatePolicies, accessDescription, authorityInfoAccess, distributionPointName, distributionPoint, cRLDistributionPoints, ocspNoCheck, judged}
+use Rattle.asn.specs.Module.{any, booleanTrue, integer, natural, bitString, namedBits, octetString, oid, sequenceOf, implicit}
+use Rattle.asn.specs.Module.{explicit, free, algorithmIdentifier, attributeTypeAndValue, relativeDistinguishedName, name, time}
+use Rattle.asn.specs.Module.{validity, subjectPublicKeyInfo, extension, extensions, version, tbsCertificate, certificate, generalName}
+use Rattle.asn.specs.Module.{generalNames, authorityKeyIdentifier, basicConstraints, subjectKeyIdentifier, keyUsage, extKeyUsage}
+use Rattle.asn.specs.Module.{policyQualifierInfo, policyInformation, certificatePolicies, accessDescription, authorityInfoAccess}
+use Rattle.asn.specs.Module.{distributionPointName, distributionPoint, cRLDistributionPoints, ocspNoCheck, judged}
 
 -- the types that have rows of their own, in the order of the rows
 unfoldable pub types : List Form

@@ -1,4 +1,4 @@
-// The interpreter: an element against a type, and the elements of a list against its fields.
+// The interpreter: the elements of a list against its fields, each by the field and the alternative that take it.
 use crate::leaf::passes_test;
 use crate::table::ROOTS;
 use crate::table::ROWS;

@@ -2,10 +2,10 @@
 // tested under another alone.
 use times::Reading;
 ghost use mathlib.Core.Path.{_≡_};
-ghost use Prim.Native.Nat.{_/_, _%_, _^_};
+ghost use Prim.Native.Nat.{_+_, _-_, _/_, _%_, _^_};
 ghost use mathlib.Core.Bool.{_||_};
 ghost use lib.Dec.{eqb, ltb};
-ghost use Rattle.octets.specs.Octets.{octetsFrom};
+ghost use Rattle.octets.specs.Octets.{octetAt, octetsFrom};
 ghost use Rattle.der.specs.Contents.{primitiveOk};
 ghost use Rattle.asn.specs.Grammar.{versionOk, trueOk, naturalOk, namedOk, isReal, passes};
 ghost use Rattle.times.specs.Reads.{timeOf};
@@ -38,11 +38,18 @@ fn bit_set(b: u8, k: u8) -> bool
     if k < 8 { (b >> k) % 2 == 1 } else { false }
 }
 
+// The last of the n octets from place `body` on.
+fn last_octet(s: &[u8], body: usize, n: usize) -> u8
+    ensures { λ r. ⌜ r ≡ octetAt (now (s .entry)) (body + (n - 1)) ⌝ }
+{
+    octets::octet_past(s, body, octets::minus(n, 1))
+}
+
 fn named_ok(s: &[u8], body: usize, n: usize) -> bool
     ensures { λ r. ⌜ r ≡ namedOk (octetsFrom (now (s .entry)) body n) ⌝ }
 {
     let unused = octets::octet(s, body);
-    let last = octets::octet_past(s, body, octets::minus(n, 1));
+    let last = last_octet(s, body, n);
     der::primitive_ok(s, 3, body, n) & ((n == 1) | bit_set(last, unused))
 }
 

@@ -1,6 +1,6 @@
--- An element against fields, by the field that takes it. The fields ask for no more than its identifier octet to choose.
---     element-follows      the first element of a list
---     none-follows         no element
+-- Going by the field that takes an element comes to what the grammar says.
+--     element-follows      a list, by the field that takes its first element
+--     none-follows         a list of no elements
 -- Assumes nothing.
 use mathlib.Core.Path.{_≡_, refl, ap, _∙_}
 use mathlib.Core.Bool.{Bool, true, false, cond}
@@ -52,7 +52,7 @@ module _ (s : List ℕ) where
   holds-settled (parts p) h = follows-settled p (h .at) (childrenOf s (h .body) (h .end))
   holds-settled (set p) h = either-settled (inOrder s h) (follows-settled p (h .at) (childrenOf s (h .body) (h .end))) badly
 
--- a verdict that is none of a stranger stands, or lets the next one stand
+-- a verdict, and where it is that all fits the next one
 abbrev pub andThen : Verdict → Verdict → Verdict
 andThen v w = cond (isFits v) w v
 
@@ -72,7 +72,8 @@ module _ (s : List ℕ) (h : Head) where
   fits-asked none = refl
   fits-asked (alt i x f) = go (fits-asked f) (takes i (h .tag))
     where
-      go : fits f s h ≡ asked (alternativeFor f (h .tag)) → (b : Bool) → cond b (holds x s h) (fits f s h) ≡ asked (cond b (holding x) (alternativeFor f (h .tag)))
+      go : fits f s h ≡ asked (alternativeFor f (h .tag)) → (b : Bool)
+          → cond b (holds x s h) (fits f s h) ≡ asked (cond b (holding x) (alternativeFor f (h .tag)))
       go e true = refl
       go e false = e
 

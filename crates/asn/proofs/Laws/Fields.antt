@@ -22,11 +22,13 @@ use Rattle.asn.specs.declared.fitting.Verdict.the-variants.{Stranger, Fi
 use Rattle.der.specs.Header.{childrenOf}
 use Rattle.der.specs.declared.header.Head.{Head}
 
-pub parts-fit : (i : ℕ) (p : Slots) (s : List ℕ) (h : Head) → fits (alt i (parts p) none) s h ≡ Fits → (takes i (h .tag) ≡ true) × (follows p s (h .at) (childrenOf s (h .body) (h .end)) ≡ Fits)
+pub parts-fit : (i : ℕ) (p : Slots) (s : List ℕ) (h : Head) → fits (alt i (parts p) none) s h ≡ Fits
+    → (takes i (h .tag) ≡ true) × (follows p s (h .at) (childrenOf s (h .body) (h .end)) ≡ Fits)
 unfolding fits holds
 parts-fit i p s h = go (takes i (h .tag))
   where
-    go : (b : Bool) → cond b (follows p s (h .at) (childrenOf s (h .body) (h .end))) Stranger ≡ Fits → (b ≡ true) × (follows p s (h .at) (childrenOf s (h .body) (h .end)) ≡ Fits)
+    go : (b : Bool) → cond b (follows p s (h .at) (childrenOf s (h .body) (h .end))) Stranger ≡ Fits
+        → (b ≡ true) × (follows p s (h .at) (childrenOf s (h .body) (h .end)) ≡ Fits)
     go true e = (refl, e)
     go false e = (cc, cc)
 

@@ -26,12 +26,15 @@ one-octet f s body zero b e = refl
 one-octet f s body (suc zero) b e = rw e
 one-octet f s body (suc (suc n)) b e = rw (ne-eqb (suc (suc n)) 1 (λ h. omega arith))
 
-pub natural-law : (s : List ℕ) (body n first : ℕ) (good : Bool) → first ≡ octetAt s body → good ≡ primitiveOk 2 (octetsFrom s body n) → (good && ltb first 128) ≡ naturalOk (octetsFrom s body n)
+pub natural-law : (s : List ℕ) (body n first : ℕ) (good : Bool) → first ≡ octetAt s body → good ≡ primitiveOk 2 (octetsFrom s body n)
+    → (good && ltb first 128) ≡ naturalOk (octetsFrom s body n)
 unfolding octetsFrom primitiveOk
 natural-law s body zero first good e g = rw g
 natural-law s body (suc n) first good e g = rw (g, e)
 
-pub named-law : (s : List ℕ) (body n unused last : ℕ) (good bit : Bool) → unused ≡ octetAt s body → last ≡ octetAt s (body + (n - 1)) → bit ≡ eqb (last / 2 ^ unused % 2) 1 → good ≡ primitiveOk 3 (octetsFrom s body n) → (good && (eqb n 1 || bit)) ≡ namedOk (octetsFrom s body n)
+pub named-law : (s : List ℕ) (body n unused last : ℕ) (good bit : Bool) → unused ≡ octetAt s body → last ≡ octetAt s (body + (n - 1))
+    → bit ≡ eqb (last / 2 ^ unused % 2) 1 → good ≡ primitiveOk 3 (octetsFrom s body n)
+    → (good && (eqb n 1 || bit)) ≡ namedOk (octetsFrom s body n)
 unfolding octetsFrom primitiveOk
 named-law s body zero unused last good bit u l b g = rw g
 named-law s body (suc zero) unused last good bit u l b g = rw g (and-true (eqb (octetAt s body) 0))
@@ -43,6 +46,7 @@ named-law s body (suc (suc n)) unused last good bit u l b g =
 pub no-bit : (b k : ℕ) → b < 256 → 8 ≤ k → false ≡ eqb (b / 2 ^ k % 2) 1
 no-bit b k h l = rw (div-eq-of-lt (lt-of-lt-of-le h (pow-mono l)))
 
-pub test-other : (t : ℕ) → (t ≡ 2 → ⊥) → (t ≡ 3 → ⊥) → (t ≡ 4 → ⊥) → (t ≡ 5 → ⊥) → (t ≡ 6 → ⊥) → (t ≡ 7 → ⊥) → (t ≡ 8 → ⊥) → (t ≡ 9 → ⊥) → (t ≡ 10 → ⊥) → (t ≡ 11 → ⊥) → testAt t ≡ Test.free
+pub test-other : (t : ℕ) → (t ≡ 2 → ⊥) → (t ≡ 3 → ⊥) → (t ≡ 4 → ⊥) → (t ≡ 5 → ⊥) → (t ≡ 6 → ⊥) → (t ≡ 7 → ⊥) → (t ≡ 8 → ⊥)
+    → (t ≡ 9 → ⊥) → (t ≡ 10 → ⊥) → (t ≡ 11 → ⊥) → testAt t ≡ Test.free
 test-other t a b c d e f g h i j =
     rw (ne-eqb t 2 a, ne-eqb t 3 b, ne-eqb t 4 c, ne-eqb t 5 d, ne-eqb t 6 e, ne-eqb t 7 f, ne-eqb t 8 g, ne-eqb t 9 h, ne-eqb t 10 i, ne-eqb t 11 j)

@@ -45,6 +45,9 @@ module _ (s : List ℕ) (to : ℕ) (some : 0 < to) where
   children-low : (at end : ℕ) → at ≤ end → end ≤ to → AllLow (childrenOf s at end)
   children-low at end l e = chain-low e (children-chain s at end l)
 
+  members-low : (h : Head) → Low h → AllLow (childrenOf s (h .body) (h .end))
+  members-low h k = children-low (h .body) (h .end) (k .forward) (k .ends)
+
   -- ---- verdicts below the bound
 
   record LowVerdict (v : Verdict) : Type 0 where
@@ -65,7 +68,8 @@ module _ (s : List ℕ) (to : ℕ) (some : 0 < to) where
   after-low Fits v a b = b
   after-low (Wrong p) v a b = v
 
-  module _ (fit : Head → Verdict) (rest : List Head → Verdict) (fit-low : (h : Head) → Low h → LowVerdict (fit h)) (rest-low : (hs : List Head) → AllLow hs → LowVerdict (rest hs)) where
+  module _ (fit : Head → Verdict) (rest : List Head → Verdict) (fit-low : (h : Head) → Low h → LowVerdict (fit h))
+      (rest-low : (hs : List Head) → AllLow hs → LowVerdict (rest hs)) where
     required-low : (outer : ℕ) → outer < to → (hs : List Head) → AllLow hs → LowVerdict (required fit rest outer hs)
     required-low outer o [] k = wrong-at o
     required-low outer o (h ∷ hs) k = after-low (fit h) (fit-low h (k .0)) (wrong-at (k .0 .starts)) (rest-low hs (k .1))
@@ -93,16 +97,21 @@ module _ (s : List ℕ) (to : ℕ) (some : 0 < to) where
 
     holds-low : (x : Inside) (h : Head) → Low h → LowVerdict (holds x s h)
     holds-low (leaf t) h k = either (passes t (h .tag) (contentsOf s h)) fits-at (wrong-at (k .starts))
-    holds-low (parts p) h k = follows-low p (h .at) (k .starts) (childrenOf s (h .body) (h .end)) (children-low (h .body) (h .end) (k .forward) (k .ends))
+    holds-low (parts p) h k = follows-low p (h .at) (k .starts) (childrenOf s (h .body) (h .end)) (members-low h k)
     holds-low (set p) h k =
-        either (inOrder s h) (follows-low p (h .at) (k .starts) (childrenOf s (h .body) (h .end)) (children-low (h .body) (h .end) (k .forward) (k .ends))) (wrong-at (k .starts))
+        either (inOrder s h) (follows-low p (h .at) (k .starts) (childrenOf s (h .body) (h .end)) (members-low h k)) (wrong-at (k .starts))
 
     follows-low : (p : Slots) (outer : ℕ) → outer < to → (hs : List Head) → AllLow hs → LowVerdict (follows p s outer hs)
     follows-low done outer o hs k = ended-low hs k
-    follows-low (one f p) outer o hs k = required-low (λ h. fits f s h) (λ hs. follows p s outer hs) (λ h l. fits-low f h l) (λ hs l. follows-low p outer o hs l) outer o hs k
-    follows-low (opt f p) outer o hs k = optional-low (λ h. fits f s h) (λ hs. follows p s outer hs) (λ h l. fits-low f h l) (λ hs l. follows-low p outer o hs l) hs k
-    follows-low (many f p) outer o hs k = repeated-low (λ h. fits f s h) (λ hs. follows p s outer hs) (λ h l. fits-low f h l) (λ hs l. follows-low p outer o hs l) hs k
+    follows-low (one f p) outer o hs k =
+        required-low (λ h. fits f s h) (λ hs. follows p s outer hs) (λ h l. fits-low f h l) (λ hs l. follows-low p outer o hs l) outer o hs k
+    follows-low (opt f p) outer o hs k =
+        optional-low (λ h. fits f s h) (λ hs. follows p s outer hs) (λ h l. fits-low f h l) (λ hs l. follows-low p outer o hs l) hs k
+    follows-low (many f p) outer o hs k =
+        repeated-low (λ h. fits f s h) (λ hs. follows p s outer hs) (λ h l. fits-low f h l) (λ hs l. follows-low p outer o hs l) hs k
 
 pub departure-inside : (s : List ℕ) → 0 < length s → refusalPlace (certificateVerdict s) < length s
 unfolding certificateVerdict
-departure-inside s l = follows-low s (length s) l (one certificate done) 0 l (childrenOf s 0 (length s)) (children-low s (length s) l 0 (length s) (omega arith) (le-refl (length s))) .below
+departure-inside s l =
+    let low = children-low s (length s) l 0 (length s) (omega arith) (le-refl (length s)) in
+    follows-low s (length s) l (one certificate done) 0 l (childrenOf s 0 (length s)) low .below

@@ -14,7 +14,8 @@ map-at f [] n d = refl
 map-at f (x ∷ xs) zero d = refl
 map-at f (x ∷ xs) (suc n) d = map-at f xs n d
 
-pub root-row : (roots : List ℕ) → map slotsAt roots ≡ map alone judged → slotsAt 0 ≡ alone Form.none → (slot row : ℕ) → row ≡ getD roots slot 0 → slotsAt row ≡ alone (valueOf slot)
+pub root-row : (roots : List ℕ) → map slotsAt roots ≡ map alone judged → slotsAt 0 ≡ alone Form.none → (slot row : ℕ) → row ≡ getD roots slot 0
+    → slotsAt row ≡ alone (valueOf slot)
 unfolding valueOf
 root-row roots right zeroth slot row e =
     ap slotsAt e

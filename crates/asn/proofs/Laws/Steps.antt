@@ -62,7 +62,10 @@ module _ (rows : List ℕ) (right : said formOf Form.none rows ≡ allForms type
   taken-later t = rw (alternative-row, t)
 
   pub in-rows : took ≡ false → m < length rows
-  in-rows t = in-table (λ x. x) refl rows m r e (λ z. let y : _≡_ {A = Bool} true false = sym (k ∙ rw z) ∙ t in let x : _≡_ {A = ℕ} 0 1 = cc in omega arith)
+  in-rows t = in-table (λ x. x) refl rows m r e (λ z. no-zero z t)
+    where
+      no-zero : r ≡ 0 → took ≡ false → ⊥
+      no-zero z t = let y : _≡_ {A = Bool} true false = sym (k ∙ rw z) ∙ t in let x : _≡_ {A = ℕ} 0 1 = cc in omega arith
 
 -- the row r at place j of a table of fields that is right: a field, with the others from the next row on, or the end of the fields
 module _ (slots : List ℕ) (right : said slotsOf Slots.done slots ≡ slotRows) (j r : ℕ) (e : r ≡ getD slots j 0) where
@@ -101,7 +104,8 @@ module _ (slots : List ℕ) (right : said slotsOf Slots.done slots ≡ slotRows)
     -- with the row of the alternative of that field that takes an element, 0 for none
     module _ (tag row : ℕ) (found : alternativeAt row ≡ alternativeFor (formAt (r % 256)) tag) where
       field-step : fieldFor (slotsAt j) tag
-          ≡ cond (not (eqb row 0) || eqb (r / 256) 1) (cond (eqb row 0) nowhere (here (insideOf row) (slotsAt (cond (ltb (r / 256) 3) (j + 1) j)))) (fieldFor others tag)
+          ≡ cond (not (eqb row 0) || eqb (r / 256) 1) (cond (eqb row 0) nowhere (here (insideOf row) (slotsAt (cond (ltb (r / 256) 3) (j + 1) j))))
+          (fieldFor others tag)
       field-step = rw (field-taker tag, ← found) (go (eqb row 0) (eqb (r / 256) 1))
         where
           rest : Slots

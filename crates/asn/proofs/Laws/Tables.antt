@@ -5,7 +5,11 @@ use mathlib.Core.Path.{_≡_, refl}
 use mathlib.Core.List.{List, [], _∷_, map}
 use Prim.Native.Nat.{ℕ}
 use Rattle.asn.specs.Grammar.{Form, Slots}
-use Rattle.asn.specs.Module.{judged, algorithmIdentifier, attributeTypeAndValue, relativeDistinguishedName, name, time, validity, subjectPublicKeyInfo, extension, extensions, version, tbsCertificate, certificate, otherName, generalName, generalNames, authorityKeyIdentifier, basicConstraints, subjectKeyIdentifier, keyUsage, extKeyUsage, policyQualifierInfo, policyInformation, certificatePolicies, accessDescription, authorityInfoAccess, distributionPointName, distributionPoint, cRLDistributionPoints, ocspNoCheck}
+use Rattle.asn.specs.Module.{judged, algorithmIdentifier, attributeTypeAndValue, relativeDistinguishedName, name, time, validity}
+use Rattle.asn.specs.Module.{subjectPublicKeyInfo, extension, extensions, version, tbsCertificate, certificate, otherName}
+use Rattle.asn.specs.Module.{generalName, generalNames, authorityKeyIdentifier, basicConstraints, subjectKeyIdentifier, keyUsage}
+use Rattle.asn.specs.Module.{extKeyUsage, policyQualifierInfo, policyInformation, certificatePolicies, accessDescription}
+use Rattle.asn.specs.Module.{authorityInfoAccess, distributionPointName, distributionPoint, cRLDistributionPoints, ocspNoCheck}
 use Rattle.asn.specs.Table.{Tables, types, alone, allForms, slotRows, formOf, slotsOf, said, formAt, slotsAt}
 
 unfoldable pub rows : List ℕ
@@ -36,18 +40,27 @@ roots =
     0x68 ∷ 0x6A ∷ 0x6C ∷ 0x6E ∷ 0x70 ∷ 0x72 ∷ 0x74 ∷ 0x76 ∷ 0x78 ∷ 0x7A ∷ 0x7C ∷ []
 
 forms-right : said formOf Form.none rows ≡ allForms types
-unfolding rows types judged slotsAt slotRows algorithmIdentifier attributeTypeAndValue relativeDistinguishedName name time validity subjectPublicKeyInfo extension extensions version tbsCertificate certificate otherName generalName generalNames authorityKeyIdentifier basicConstraints subjectKeyIdentifier keyUsage extKeyUsage policyQualifierInfo policyInformation certificatePolicies accessDescription authorityInfoAccess distributionPointName distributionPoint cRLDistributionPoints ocspNoCheck
+unfolding rows types judged slotsAt slotRows algorithmIdentifier attributeTypeAndValue relativeDistinguishedName name time validity
+    subjectPublicKeyInfo extension extensions version tbsCertificate certificate otherName generalName generalNames authorityKeyIdentifier
+    basicConstraints subjectKeyIdentifier keyUsage extKeyUsage policyQualifierInfo policyInformation certificatePolicies accessDescription
+    authorityInfoAccess distributionPointName distributionPoint cRLDistributionPoints ocspNoCheck
 forms-right = refl
 
 fields-right : said slotsOf Slots.done slots ≡ slotRows
-unfolding slots slotRows types judged formAt algorithmIdentifier attributeTypeAndValue relativeDistinguishedName name time validity subjectPublicKeyInfo extension extensions version tbsCertificate certificate otherName generalName generalNames authorityKeyIdentifier basicConstraints subjectKeyIdentifier keyUsage extKeyUsage policyQualifierInfo policyInformation certificatePolicies accessDescription authorityInfoAccess distributionPointName distributionPoint cRLDistributionPoints ocspNoCheck
+unfolding slots slotRows types judged formAt algorithmIdentifier attributeTypeAndValue relativeDistinguishedName name time validity
+    subjectPublicKeyInfo extension extensions version tbsCertificate certificate otherName generalName generalNames authorityKeyIdentifier
+    basicConstraints subjectKeyIdentifier keyUsage extKeyUsage policyQualifierInfo policyInformation certificatePolicies accessDescription
+    authorityInfoAccess distributionPointName distributionPoint cRLDistributionPoints ocspNoCheck
 fields-right = refl
 
 pub tables-right : Tables rows slots
 tables-right = record { forms = forms-right; fields = fields-right }
 
 pub roots-right : map slotsAt roots ≡ map alone judged
-unfolding roots slotsAt slotRows types judged algorithmIdentifier attributeTypeAndValue relativeDistinguishedName name time validity subjectPublicKeyInfo extension extensions version tbsCertificate certificate otherName generalName generalNames authorityKeyIdentifier basicConstraints subjectKeyIdentifier keyUsage extKeyUsage policyQualifierInfo policyInformation certificatePolicies accessDescription authorityInfoAccess distributionPointName distributionPoint cRLDistributionPoints ocspNoCheck
+unfolding roots slotsAt slotRows types judged algorithmIdentifier attributeTypeAndValue relativeDistinguishedName name time validity
+    subjectPublicKeyInfo extension extensions version tbsCertificate certificate otherName generalName generalNames authorityKeyIdentifier
+    basicConstraints subjectKeyIdentifier keyUsage extKeyUsage policyQualifierInfo policyInformation certificatePolicies accessDescription
+    authorityInfoAccess distributionPointName distributionPoint cRLDistributionPoints ocspNoCheck
 roots-right = refl
 
 pub none-right : slotsAt 0 ≡ alone Form.none

@@ -53,7 +53,8 @@ loop-again : tie.Need-loop-again Inv-loop μ-loop
 loop-again c =
     let r = c .before .before in
     let i = r .before .before .before in
-    sym (lacks-next (i .args .slots .now) (i .pre) (r .before .loop .j) (r .row-at .result) (r .row-at .ensures .0) (c .before .if1 .left) (i .args .outer) (c .if2 .left))
+    sym (lacks-next (i .args .slots .now) (i .pre) (r .before .loop .j) (r .row-at .result) (r .row-at .ensures .0) (c .before .if1 .left)
+    (i .args .outer) (c .if2 .left))
     ∙ r .before .loop .inv
 
 pub end-before-spec : {M : Type 1} → statement M

@@ -31,16 +31,16 @@ in-table e =
     let k = e .before in
     let r = k .before in
     let i = r .before .before .before in
-    in-rows (i .args .rows .now) (i .pre) (r .before .loop .m) (r .row-at .result) (r .row-at .ensures .0) (i .args .tag) (k .takes-tag .result) (k .takes-tag .ensures)
-    (e .if1 .left)
+    in-rows (i .args .rows .now) (i .pre) (r .before .loop .m) (r .row-at .result) (r .row-at .ensures .0) (i .args .tag) (k .takes-tag .result)
+    (k .takes-tag .ensures) (e .if1 .left)
 
 returns : tie.Need-returns Inv-loop μ-loop
 returns c =
     let k = c .before in
     let r = k .before in
     let i = r .before .before .before in
-    sym (taken-here (i .args .rows .now) (i .pre) (r .before .loop .m) (r .row-at .result) (r .row-at .ensures .0) (i .args .tag) (k .takes-tag .result) (k .takes-tag .ensures)
-    (c .if1 .taken))
+    sym (taken-here (i .args .rows .now) (i .pre) (r .before .loop .m) (r .row-at .result) (r .row-at .ensures .0) (i .args .tag) (k .takes-tag .result)
+    (k .takes-tag .ensures) (c .if1 .taken))
     ∙ r .before .loop .inv
 
 add-m : tie.Need-add-m Inv-loop μ-loop
@@ -54,8 +54,8 @@ loop-again c =
     let k = c .before in
     let r = k .before in
     let i = r .before .before .before in
-    sym (taken-later (i .args .rows .now) (i .pre) (r .before .loop .m) (r .row-at .result) (r .row-at .ensures .0) (i .args .tag) (k .takes-tag .result) (k .takes-tag .ensures)
-    (c .if1 .left))
+    sym (taken-later (i .args .rows .now) (i .pre) (r .before .loop .m) (r .row-at .result) (r .row-at .ensures .0) (i .args .tag) (k .takes-tag .result)
+    (k .takes-tag .ensures) (c .if1 .left))
     ∙ r .before .loop .inv
 
 pub find-alternative-spec : {M : Type 1} → statement M

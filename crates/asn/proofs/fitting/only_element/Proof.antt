@@ -31,7 +31,8 @@ unfolding roots
 returns c =
     let r = c .before .before .before in
     let a = r .before .before .before .args in
-    let root : slotsAt (r .row-at .result) ≡ alone (valueOf (a .slot)) = root-row roots roots-right none-right (a .slot) (r .row-at .result) (r .row-at .ensures .0) in
+    let root : slotsAt (r .row-at .result) ≡ alone (valueOf (a .slot)) =
+    root-row roots roots-right none-right (a .slot) (r .row-at .result) (r .row-at .ensures .0) in
     c .walk .ensures ∙ ap (λ (p : Slots). follows p (a .s .now) (a .at) (childrenOf (a .s .now) (a .at) (a .end))) root
 
 pub only-element-spec : {M : Type 1} → statement M

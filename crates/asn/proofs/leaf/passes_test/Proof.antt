@@ -76,7 +76,10 @@ returns-11 : tie.Need-returns-11
 returns-11 c =
     let r = c .match .rest in
     let a = c .before .before .args in
-    sym (ap (λ (t : Test). passes t (a .tag) (octetsFrom (a .s .now) (a .body) (a .n))) (test-other (a .test) (r .0 .0 .0 .0 .0 .0 .0 .0 .0 .1) (r .0 .0 .0 .0 .0 .0 .0 .0 .1) (r .0 .0 .0 .0 .0 .0 .0 .1) (r .0 .0 .0 .0 .0 .0 .1) (r .0 .0 .0 .0 .0 .1) (r .0 .0 .0 .0 .1) (r .0 .0 .0 .1) (r .0 .0 .1) (r .0 .1) (r .1)))
+    let other =
+    test-other (a .test) (r .0 .0 .0 .0 .0 .0 .0 .0 .0 .1) (r .0 .0 .0 .0 .0 .0 .0 .0 .1) (r .0 .0 .0 .0 .0 .0 .0 .1) (r .0 .0 .0 .0 .0 .0 .1)
+    (r .0 .0 .0 .0 .0 .1) (r .0 .0 .0 .0 .1) (r .0 .0 .0 .1) (r .0 .0 .1) (r .0 .1) (r .1) in
+    sym (ap (λ (t : Test). passes t (a .tag) (octetsFrom (a .s .now) (a .body) (a .n))) other)
 
 pub passes-test-spec : {M : Type 1} → statement M
 passes-test-spec =
