@@ -5,9 +5,8 @@ use crate::lines::say_lost;
 use crate::lines::say_record;
 use reader::Item;
 
-// Takes one step, and writes what it gave.
-fn say_step(deck: &[u8], position: usize, room: &mut [u8]) {
-    let item = reader::step(deck, position, room);
+// Writes what a step gave, with the room that it left.
+fn say_item(item: Item, position: usize, room: &[u8]) {
     match item {
         Item::Record(record) => {
             say_record(record);
@@ -22,11 +21,12 @@ fn say_step(deck: &[u8], position: usize, room: &mut [u8]) {
 fn say_steps(deck: &[u8], room: &mut [u8]) {
     let mut position: usize = 0;
     loop {
-        say_step(deck, position, room);
-        let passed = reader::blocks_in(reader::find(deck, position));
+        let item = reader::step(deck, position, room);
+        let passed = reader::item_blocks(item);
         if passed == 0 {
             return;
         }
+        say_item(item, position, room);
         position += passed;
     }
 }

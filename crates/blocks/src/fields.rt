@@ -60,3 +60,6 @@ pub fn parts_of(n: usize) -> usize
     }
     n / 502 + 1
 }
+
+// The data of 33 parts, as many as the longest record has: a record is laid out or gathered in so many octets.
+pub const DESK: usize = 16566;

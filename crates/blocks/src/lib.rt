@@ -4,6 +4,7 @@ mod fields;
 
 pub use check::check_of;
 pub use check::is_sound;
+pub use fields::DESK;
 pub use fields::is_clear;
 pub use fields::is_filled;
 pub use fields::is_record_length;

@@ -2,6 +2,7 @@
 pub mod Steps
 pub mod Places
 pub mod Starts
+pub mod Found
 pub mod Gathering
 pub mod Stepping
 pub mod Walking

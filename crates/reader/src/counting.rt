@@ -1,6 +1,5 @@
 // How many records a deck holds, how many blocks, and how many of these are lost.
 use crate::finding::Found;
-use crate::finding::blocks_in;
 use crate::finding::find;
 ghost use mathlib.Core.Path.{_≡_};
 ghost use lib.ListN.{length};

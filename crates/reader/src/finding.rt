@@ -3,7 +3,7 @@ ghost use mathlib.Core.Path.{_≡_};
 ghost use Prim.Native.Nat.{_*_, _≤_, _<_};
 ghost use lib.ListN.{length};
 ghost use Rattle.reader.specs.Runs.{blockAt, from, isPart, areParts, starts};
-ghost use Rattle.reader.specs.Finding.{foundAt, blocksIn};
+ghost use Rattle.reader.specs.Finding.{foundAt};
 
 // Why a block is lost.
 pub enum Loss {
@@ -102,15 +102,4 @@ pub fn find(deck: &[u8], position: usize) -> Found
         return Found::Lost(Loss::Stray);
     }
     Found::Lost(Loss::Unsound)
-}
-
-// How many blocks are passed with what was found.
-pub fn blocks_in(found: Found) -> usize
-    ensures { λ r. ⌜ r ≡ blocksIn found ⌝ }
-{
-    match found {
-        Found::Record(_, n) => blocks::parts_of(n),
-        Found::Lost(_) => 1,
-        Found::End => 0,
-    }
 }

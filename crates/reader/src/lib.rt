@@ -8,7 +8,6 @@ pub use counting::block_count;
 pub use counting::tally;
 pub use finding::Found;
 pub use finding::Loss;
-pub use finding::blocks_in;
 pub use finding::find;
 pub use stepping::Item;
 pub use stepping::Record;

@@ -26,9 +26,6 @@ pub enum Item {
     End,
 }
 
-// The longest record has 33 parts: so many octets hold the data of any.
-const DESK: usize = 16566;
-
 // Copies the data of the k blocks from `position` on to the front of the desk.
 fn gather(deck: &[u8], position: usize, k: usize, desk: &mut [u8])
     requires { ⌜ (512 * (position + k) ≤ length (now deck)) × (k * 502 ≤ length (now desk)) ⌝ }
@@ -62,7 +59,7 @@ fn lint_record(deck: &[u8], position: usize, number: usize, n: usize, room: &mut
     requires { ⌜ foundAt (now deck) position ≡ Found.Record number n ⌝ }
     ensures { λ r. ⌜ Linted number (recordFrom (from (now (deck .entry)) position)) (now (room .entry)) r (now (room .exit)) ⌝ }
 {
-    let mut desk = [0u8; DESK];
+    let mut desk = [0u8; blocks::DESK];
     gather(deck, position, blocks::parts_of(n), &mut desk);
     lint_desk(&desk, number, n, room)
 }

@@ -17,13 +17,11 @@ pub enum Answer {
     Refused(Refusal),
 }
 
-// The longest record has 33 parts: so many octets hold the data of any, and what no record covers stays zero.
-const DESK: usize = 16566;
-
 // Lays a record out at the front of the desk: "profile octet, certificate length in two octets, certificate, issuer".
 fn lay_out(profile: u8, certificate: &[u8], issuer: &[u8], desk: &mut [u8])
     requires { ⌜ 3 + length (now certificate) + length (now issuer) ≤ length (now desk) ⌝ }
-    ensures { λ _. ⌜ now (desk .exit) ≡ recordOf profile (now (certificate .entry)) (now (issuer .entry)) ++ drop (3 + length (now (certificate .entry)) + length (now (issuer .entry))) (now (desk .entry)) ⌝ }
+    ensures { λ _. ⌜ now (desk .exit) ≡ recordOf profile (now (certificate .entry)) (now (issuer .entry))
+        ++ drop (3 + length (now (certificate .entry)) + length (now (issuer .entry))) (now (desk .entry)) ⌝ }
 {
     let n = certificate.len();
     desk[0] = profile;
@@ -91,10 +89,12 @@ fn put_record(
     count: usize,
     room: &mut [u8],
 )
-    requires { ⌜ (length (now certificate) ≤ 8192) × (length (now issuer) ≤ 8192) × (count ≡ parts (length (recordOf profile (now certificate) (now issuer)))) × (512 * count ≤ length (now room)) ⌝ }
-    ensures { λ _. ⌜ now (room .exit) ≡ joined (blocksOf number (recordOf profile (now (certificate .entry)) (now (issuer .entry)))) ++ drop (512 * count) (now (room .entry)) ⌝ }
+    requires { ⌜ (length (now certificate) ≤ 8192) × (length (now issuer) ≤ 8192)
+        × (count ≡ parts (length (recordOf profile (now certificate) (now issuer)))) × (512 * count ≤ length (now room)) ⌝ }
+    ensures { λ _. ⌜ now (room .exit) ≡ joined (blocksOf number (recordOf profile (now (certificate .entry)) (now (issuer .entry))))
+        ++ drop (512 * count) (now (room .entry)) ⌝ }
 {
-    let mut desk = [0u8; DESK];
+    let mut desk = [0u8; blocks::DESK];
     let n = 3 + certificate.len() + issuer.len();
     lay_out(profile, certificate, issuer, &mut desk);
     put_blocks(number, n, count, &desk, room);

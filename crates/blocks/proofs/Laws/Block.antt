@@ -11,8 +11,8 @@ use native.Mathlib.Omega.{arith}
 use lib.ListN.{length, getD, take, length-append}
 use lib.Seq.{take-at, getD-append-add}
 use borrow.Author.Tests.{eq-eqb}
-use Rattle.octets.specs.Numbers.{pairAt, pairOf}
 use Rattle.blocks.specs.Block.{checkOf, sound, numberOf, lengthOf, partOf, isClear, dataOf, bodyOf, blockOf}
+use Rattle.octets.specs.Numbers.{pairAt, pairOf}
 use Rattle.blocks.proofs.Laws.Logic.{and-both}
 
 pub check-small : (b : List ℕ) → checkOf b < 65521

@@ -1,20 +1,20 @@
 -- The fill of a block: its data from an octet on.
 --     fill-next, fill-done     one octet and those after it; none left
 -- Assumes nothing.
-use mathlib.Core.Path.{_≡_, refl, sym, ap, ap₂, _∙_}
+use mathlib.Core.Path.{_≡_, ap, ap₂, _∙_}
 use mathlib.Core.Bool.{true}
 use mathlib.Core.Logic.{⊎-elim}
-use mathlib.Core.List.{List, []}
+use mathlib.Core.List.{List}
 use Prim.Native.Nat.{ℕ, suc, _+_, _≤_, _<_}
 use native.Mathlib.Omega.{arith}
 use lib.Dec.{eqb}
 use lib.ListN.{length, drop, length-take, length-drop, drop-of-length-le}
 use lib.Seq.{drop-cons, getD-take, getD-drop}
-use Rattle.octets.specs.Octets.{octetAt}
-use Rattle.octets.proofs.Laws.Octets.{past}
 use Rattle.blocks.specs.Tests.{_and_}
 use Rattle.blocks.specs.Block.{dataOf}
 use Rattle.blocks.specs.Record.{zeros}
+use Rattle.octets.specs.Octets.{octetAt}
+use Rattle.octets.proofs.Laws.Octets.{past}
 use Rattle.blocks.proofs.Laws.Logic.{below-or-not}
 
 module _ (b : List ℕ) (i : ℕ) where

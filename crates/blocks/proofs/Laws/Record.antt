@@ -8,8 +8,8 @@ use Prim.Native.Nat.{ℕ, _+_, _≤_}
 use native.Mathlib.Omega.{arith}
 use lib.ListN.{length, length-append}
 use lib.Seq.{take-at, drop-at}
-use Rattle.octets.specs.Numbers.{pairOf}
 use Rattle.blocks.specs.Record.{recordOf, profileIn, certificateLength, certificateIn, issuerIn}
+use Rattle.octets.specs.Numbers.{pairOf}
 
 module _ (profile : ℕ) (certificate issuer : List ℕ) where
   pub record-length : length (recordOf profile certificate issuer) ≡ 3 + length certificate + length issuer

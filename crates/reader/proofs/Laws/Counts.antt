@@ -11,18 +11,18 @@ use Prim.Native.Nat.{ℕ, suc, _+_, _*_, _≤_, _<_}
 use native.Mathlib.Omega.{arith}
 use lib.ListN.{length, drop}
 use lib.Seq.{drop-drop}
-use Rattle.blocks.specs.Block.{lengthOf}
-use Rattle.blocks.specs.Record.{parts}
 use Rattle.reader.specs.Runs.{blocks, blockAt, from, first, starts}
 use Rattle.reader.specs.Events.{Event, eventIf, reading}
 use Rattle.reader.specs.Finding.{foundIf, foundAt, blocksIn}
 use Rattle.reader.specs.Counting.{recordsIn, lostIn}
 use Rattle.reader.specs.declared.finding.Found.{Found}
 use Rattle.reader.specs.declared.finding.Found.the-variants.{Record, Lost, End}
+use Rattle.blocks.specs.Block.{lengthOf}
+use Rattle.blocks.specs.Record.{parts}
 use Rattle.blocks.proofs.Laws.Logic.{true-or-false, below-or-not}
 use Rattle.reader.proofs.Laws.Steps.{some-parts, past-record, past-lost}
 use Rattle.reader.proofs.Laws.Places.{from-cons, from-nil, first-is}
-use Rattle.reader.proofs.Laws.Starts.{found-by, found-none, found-record, found-lost, run-within}
+use Rattle.reader.proofs.Laws.Found.{found-by, found-none, found-record, found-lost, run-within}
 
 -- the events from a position on
 abbrev pub eventsFrom : List ℕ → ℕ → List Event

@@ -12,11 +12,11 @@ use lib.Dec.{ltb}
 use lib.ListN.{length, getD, drop, drop-of-length-le}
 use lib.Seq.{drop-cons, getD-drop}
 use borrow.Author.Tests.{lt-ltb, le-ltb}
-use Rattle.blocks.specs.Tests.{_and_}
-use Rattle.blocks.specs.Block.{partOf}
 use Rattle.reader.specs.Runs.{blocks, first, starts}
 use Rattle.reader.specs.Events.{Event, eventIf, moreIf, reading, events}
 use Rattle.reader.specs.Exactly.{runLength, inRun, marks}
+use Rattle.blocks.specs.Tests.{_and_}
+use Rattle.blocks.specs.Block.{partOf}
 use Rattle.blocks.proofs.Laws.Logic.{and-both, and-not-left, and-not-right, not-true, true-or-false}
 use Rattle.reader.proofs.Laws.Steps.{some-parts, run-places}
 
@@ -51,7 +51,8 @@ module _ (bs : List (List ℕ)) where
       let here : (starts (drop a bs) and ltb i (a + runLength bs a)) ≡ true =
       rw e at (and-both t (lt-ltb i (c + runLength bs c) l)) in
       rw here)
-      (λ (s : c < a). ap (λ (x : Bool). (starts (drop a bs) and ltb i (a + runLength bs a)) || x) (inside i a c s t l) ∙ or-true (starts (drop a bs) and ltb i (a + runLength bs a)))
+      (λ (s : c < a). ap (λ (x : Bool). (starts (drop a bs) and ltb i (a + runLength bs a)) || x) (inside i a c s t l)
+      ∙ or-true (starts (drop a bs) and ltb i (a + runLength bs a)))
       (eq-or-lt-of-le (le-of-suc-le-suc h))
 
   -- the runs that started before i end at i + skip or before, and where skip is not 0 one of them ends there

@@ -3,16 +3,16 @@
 --     data-snoc       the data of one block more
 --     gathered, gathered-long     it is copied behind that of the blocks before it
 -- Assumes nothing.
-use mathlib.Core.Path.{_≡_, refl, sym, ap, ap₂, _∙_}
+use mathlib.Core.Path.{_≡_, sym, ap, ap₂, _∙_}
 use mathlib.Core.List.{List, _++_, append-assoc, append-nil}
 use Prim.Native.Nat.{ℕ, zero, suc, _+_, _*_, _≤_}
 use native.Mathlib.Omega.{arith}
 use lib.ListN.{length, take, drop, length-append, length-drop}
 use lib.Seq.{take-at, drop-at, take-add, take-take, drop-drop, drop-append-add, length-take-le}
+use Rattle.reader.specs.Runs.{from, blockAt, dataFrom}
 use Rattle.octets.specs.Copying.{copied}
 use Rattle.octets.proofs.Laws.Copying.{copied-paste}
 use Rattle.blocks.specs.Block.{dataOf}
-use Rattle.reader.specs.Runs.{from, blockAt, dataFrom}
 use Rattle.reader.proofs.Laws.Places.{from-cons, data-length}
 
 pub data-place : (d : List ℕ) (i : ℕ) → 512 * i + 512 ≤ length d → dataOf (blockAt d i) ≡ take 502 (drop (512 * i + 8) d)
@@ -24,7 +24,8 @@ data-place d i h =
     ∙ take-take 502 504 (drop 8 X) (omega arith)
     ∙ ap (λ (l : List ℕ). take 502 l) (drop-drop 8 (512 * i) d)
 
-pub data-snoc : (j : ℕ) (d : List ℕ) (i : ℕ) → 512 * (i + suc j) ≤ length d → dataFrom (suc j) (from d i) ≡ dataFrom j (from d i) ++ dataOf (blockAt d (i + j))
+pub data-snoc : (j : ℕ) (d : List ℕ) (i : ℕ) → 512 * (i + suc j) ≤ length d
+    → dataFrom (suc j) (from d i) ≡ dataFrom j (from d i) ++ dataOf (blockAt d (i + j))
 data-snoc zero d i h =
     let e : i ≡ i + 0 = omega arith in
     rw (from-cons d i (omega arith)) (append-nil (dataOf (blockAt d i)) ∙ ap (λ (m : ℕ). dataOf (blockAt d m)) e)
@@ -35,7 +36,8 @@ data-snoc (suc j) d i h =
     ∙ sym (append-assoc (dataOf (blockAt d i)) (dataFrom j (from d (suc i))) (dataOf (blockAt d (suc i + j))))
     ∙ ap (λ (m : ℕ). (dataOf (blockAt d i) ++ dataFrom j (from d (suc i))) ++ dataOf (blockAt d m)) e)
 
-module _ (d : List ℕ) (i j : ℕ) (desk₀ desk last : List ℕ) (inside : 512 * (i + suc j) ≤ length d) (room : suc j * 502 ≤ length desk₀) (e : desk ≡ dataFrom j (from d i) ++ drop (j * 502) desk₀) (c : last ≡ copied d (512 * (i + j) + 8) 502 desk (502 * j)) where
+module _ (d : List ℕ) (i j : ℕ) (desk₀ desk last : List ℕ) (inside : 512 * (i + suc j) ≤ length d) (room : suc j * 502 ≤ length desk₀)
+    (e : desk ≡ dataFrom j (from d i) ++ drop (j * 502) desk₀) (c : last ≡ copied d (512 * (i + j) + 8) 502 desk (502 * j)) where
   abbrev before : List ℕ
   before = dataFrom j (from d i)
 

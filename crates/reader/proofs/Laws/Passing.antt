@@ -21,7 +21,7 @@ use Rattle.blocks.specs.Record.{parts}
 use Rattle.blocks.proofs.Laws.Logic.{below-or-not}
 use Rattle.reader.proofs.Laws.Steps.{some-parts}
 use Rattle.reader.proofs.Laws.Places.{data-length}
-use Rattle.reader.proofs.Laws.Starts.{run-within}
+use Rattle.reader.proofs.Laws.Found.{run-within}
 use Rattle.reader.proofs.Laws.Counts.{step}
 
 module _ (d : List ℕ) (i : ℕ) where
@@ -33,7 +33,8 @@ module _ (d : List ℕ) (i : ℕ) where
       let long : length (dataFrom (parts n) (from d i)) ≡ parts n * 502 = data-length (parts n) d i (run-within d i t h) in
       length-take-le n (dataFrom (parts n) (from d i)) (omega arith)
 
-  by-start : (room : List ℕ) → 512 * i < length d → (t : Bool) → starts (from d i) ≡ t → itemBlocks (itemOf room (eventIf t i (from d i))) ≡ blocksIn (foundIf t (from d i))
+  by-start : (room : List ℕ) → 512 * i < length d → (t : Bool) → starts (from d i) ≡ t
+      → itemBlocks (itemOf room (eventIf t i (from d i))) ≡ blocksIn (foundIf t (from d i))
   by-start room h true e = ap parts (record-long h e)
   by-start room h false e = refl
 

@@ -15,9 +15,9 @@ use native.Mathlib.Nat.{le-of-suc-le-suc, not-suc-le-zero}
 use native.Mathlib.Omega.{arith}
 use lib.ListN.{length, take, drop, length-append, length-drop, drop-of-length-le}
 use lib.Seq.{drop-drop, length-take-le}
+use Rattle.reader.specs.Runs.{cut, blocks, from, blockAt, isPart, areParts, dataFrom, first}
 use Rattle.blocks.specs.Tests.{_and_}
 use Rattle.blocks.specs.Block.{sound, dataOf}
-use Rattle.reader.specs.Runs.{cut, blocks, from, blockAt, isPart, areParts, dataFrom, first}
 use Rattle.blocks.proofs.Laws.Logic.{and-not-left, below-or-not}
 
 pub next-block : (d : List ℕ) (i : ℕ) → blockAt (drop 512 d) i ≡ blockAt d (suc i)

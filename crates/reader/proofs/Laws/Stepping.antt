@@ -3,32 +3,32 @@
 --     desk-record, desk-cut, desk-enough   the data of a record that starts at a block, gathered on the desk
 --     step-record, step-lost, step-end     a step, by what is found
 -- Assumes nothing.
-use mathlib.Core.Path.{_≡_, refl, sym, ap, ap₂, _∙_}
+use mathlib.Core.Path.{_≡_, refl, ap, ap₂, _∙_}
 use mathlib.Core.Bool.{Bool, true, false, cond}
 use mathlib.Core.List.{List, _++_}
-use Prim.Native.Nat.{ℕ, _+_, _-_, _*_, _≤_, _<_}
+use Prim.Native.Nat.{ℕ, _+_, _-_, _*_, _≤_}
 use native.Mathlib.Omega.{arith}
-use lib.ListN.{length, take, drop, length-append, length-drop, List·getD-append}
+use lib.ListN.{length, take, drop, length-append, List·getD-append}
 use lib.Seq.{take-add, take-take, take-append-le, drop-at, getD-take, length-take-le}
 use lib.Dec.{ltb}
 use borrow.Author.Tests.{lt-ltb}
-use Rattle.octets.specs.Octets.{octetAt}
-use Rattle.octets.specs.Numbers.{pairAt}
-use Rattle.blocks.specs.Record.{parts, profileIn, certificateLength, certificateIn, issuerIn}
-use Rattle.lint.specs.Answers.{answerOf, roomOf, Answered}
-use Rattle.lint.specs.declared.linting.Answer.{Answer}
 use Rattle.reader.specs.Runs.{from, starts, dataFrom, recordFrom}
 use Rattle.reader.specs.Events.{eventIf}
 use Rattle.reader.specs.Finding.{foundIf, foundAt}
-use Rattle.reader.specs.Stepping.{lintedRecord, lintedRoom, itemOf, roomAfter, itemAt, roomAt, Linted, Stepped}
+use Rattle.reader.specs.Stepping.{lintedRoom, itemOf, roomAfter, itemAt, roomAt, Linted, Stepped}
 use Rattle.reader.specs.declared.finding.Loss.{Loss}
 use Rattle.reader.specs.declared.finding.Found.{Found}
-use Rattle.reader.specs.declared.finding.Found.the-variants as Founds
 use Rattle.reader.specs.declared.stepping.Record.{Record}
 use Rattle.reader.specs.declared.stepping.Item.{Item}
-use Rattle.reader.specs.declared.stepping.Item.the-variants as Items
+use Rattle.octets.specs.Octets.{octetAt}
+use Rattle.octets.specs.Numbers.{pairAt}
+use Rattle.blocks.specs.Record.{parts, profileIn, certificateLength, certificateIn, issuerIn}
+use Rattle.lint.specs.Answers.{Answered}
+use Rattle.lint.specs.declared.linting.Answer.{Answer}
 use Rattle.reader.proofs.Laws.Places.{data-length}
-use Rattle.reader.proofs.Laws.Starts.{Start}
+use Rattle.reader.proofs.Laws.Found.{Start}
+use Rattle.reader.specs.declared.finding.Found.the-variants as Founds
+use Rattle.reader.specs.declared.stepping.Item.the-variants as Items
 
 drop-take : (m n : ℕ) (l : List ℕ) → m ≤ n → m ≤ length l → drop m (take n l) ≡ take (n - m) (drop m l)
 drop-take m n l h k =
@@ -61,16 +61,21 @@ module _ (desk : List ℕ) (n cut : ℕ) (e : cut ≡ 3 + pairAt desk 1) (h : cu
       let m : 3 + certificateLength p ≡ cut = omega (arith, on-cut) in
       ap (λ (i : ℕ). drop i p) m ∙ drop-take cut n desk h (omega arith)
 
-  pub desk-linted : (number profile : ℕ) (room last : List ℕ) (a : Answer) → profile ≡ octetAt desk 0 → Answered (take (cut - 3) (drop 3 desk)) (take (n - cut) (drop cut desk)) profile room a last → Linted number p room (record { number = number; profile = profile; length = n; answer = a }) last
+  pub desk-linted : (number profile : ℕ) (room last : List ℕ) (a : Answer) → profile ≡ octetAt desk 0
+      → Answered (take (cut - 3) (drop 3 desk)) (take (n - cut) (drop cut desk)) profile room a last
+      → Linted number p room (record { number = number; profile = profile; length = n; answer = a }) last
   unfolding lintedRoom
   desk-linted number profile room last a q l =
       record {
-        told = rw (length-take-le n desk k, on-profile, on-certificate, on-issuer, ← q) (ap (λ (x : Answer). record { number = number; profile = profile; length = n; answer = x }) (l .told));
+        told =
+            rw (length-take-le n desk k, on-profile, on-certificate, on-issuer, ← q)
+            (ap (λ (x : Answer). record { number = number; profile = profile; length = n; answer = x }) (l .told));
         bytes = rw (on-profile, on-certificate, on-issuer, ← q) (l .bytes);
       }
 
 -- a record that starts at a block, whose data is gathered at the front of a desk of 16,566 octets
-module _ (d : List ℕ) (i number n k : ℕ) (desk₀ desk : List ℕ) (start : Start d i number n) (e : k ≡ parts n) (long : length desk₀ ≡ 16566) (g : desk ≡ dataFrom k (from d i) ++ drop (k * 502) desk₀) where
+module _ (d : List ℕ) (i number n k : ℕ) (desk₀ desk : List ℕ) (start : Start d i number n) (e : k ≡ parts n) (long : length desk₀ ≡ 16566)
+    (g : desk ≡ dataFrom k (from d i) ++ drop (k * 502) desk₀) where
   abbrev gathered : List ℕ
   gathered = dataFrom k (from d i)
 
@@ -92,14 +97,16 @@ module _ (d : List ℕ) (i number n k : ℕ) (desk₀ desk : List ℕ) (start : 
       let enough : 3 ≤ length gathered = omega (arith, gathered-long, start .least) in
       let same : certificateLength desk ≡ certificateLength gathered =
       ap certificateLength g
-      ∙ ap₂ (λ (a b : ℕ). 256 * a + b) (List·getD-append gathered (drop (k * 502) desk₀) 0 1 (omega arith)) (List·getD-append gathered (drop (k * 502) desk₀) 0 2 (omega arith)) in
+      ∙ ap₂ (λ (a b : ℕ). 256 * a + b)
+      (List·getD-append gathered (drop (k * 502) desk₀) 0 1 (omega arith)) (List·getD-append gathered (drop (k * 502) desk₀) 0 2 (omega arith)) in
       let fitted : certificateLength gathered ≤ n - 3 = rw e (start .fitted) in
       omega (arith, start .least, same, fitted)
 
 -- ---- by what is found
 
 module _ (d : List ℕ) (i : ℕ) (room : List ℕ) where
-  pub step-record : (number n : ℕ) (r : Record) (last : List ℕ) → Start d i number n → Linted number (recordFrom (from d i)) room r last → Stepped d i room (Items.Record r) last
+  pub step-record : (number n : ℕ) (r : Record) (last : List ℕ) → Start d i number n → Linted number (recordFrom (from d i)) room r last
+      → Stepped d i room (Items.Record r) last
   unfolding itemAt roomAt
   step-record number n r last start l =
       record {

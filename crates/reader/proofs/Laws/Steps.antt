@@ -3,20 +3,19 @@
 --     some-parts, run-sound, run-places       of a run that starts here: it has a part, and each of its blocks is sound and its part
 --     part-sound                              a part is sound
 -- Assumes nothing.
-use mathlib.Core.Path.{_≡_, refl, sym, ap, _∙_}
+use mathlib.Core.Path.{_≡_, refl, ap, _∙_}
 use mathlib.Core.Bool.{true, false, false≢true}
-use mathlib.Core.Logic.{_≢_, _⊎_, ⊎-elim}
-use mathlib.Core.List.{List, [], _∷_, _++_}
+use mathlib.Core.List.{List, [], _∷_}
 use Prim.Native.Nat.{ℕ, zero, suc, pred, _+_, _≤_, _<_}
 use native.Mathlib.Nat.{le-of-suc-le-suc, not-suc-le-zero, add-zero}
 use native.Mathlib.Omega.{arith}
-use lib.ListN.{length, getD, drop}
+use lib.ListN.{getD, drop}
 use borrow.Author.Tests.{eqb-true}
-use Rattle.blocks.specs.Block.{sound, numberOf, lengthOf, partOf}
-use Rattle.blocks.specs.Record.{parts}
 use Rattle.reader.specs.Runs.{isPart, areParts, run, first, starts}
 use Rattle.reader.specs.Events.{Event, lost-at, lossOf, eventIf, reading}
-use Rattle.blocks.proofs.Laws.Logic.{and-left, and-right, not-true, fits}
+use Rattle.blocks.specs.Block.{sound, numberOf, lengthOf, partOf}
+use Rattle.blocks.specs.Record.{parts}
+use Rattle.blocks.proofs.Laws.Logic.{and-left, and-right, fits}
 
 pub skipped : (skip at : ℕ) (bs : List (List ℕ)) → reading skip at bs ≡ reading 0 (at + skip) (drop skip bs)
 skipped zero at bs = ap (λ (n : ℕ). reading 0 n bs) (omega arith)

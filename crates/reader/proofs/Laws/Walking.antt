@@ -29,7 +29,11 @@ use Rattle.reader.specs.declared.stepping.Item.the-variants as Items
 pub same-handed : (room other : List ℕ) → length room ≡ length other → (e : Event) → handedOver room e ≡ handedOver other e
 unfolding lintedRoom
 same-handed room other h (record-at position number p) =
-    ap₂ (λ (a : Answer) (report : List ℕ). record { position = position; item = Items.Record (record { number = number; profile = profileIn p; length = length p; answer = a }); report = report })
+    ap₂ (λ (a : Answer) (report : List ℕ). record {
+      position = position;
+      item = Items.Record (record { number = number; profile = profileIn p; length = length p; answer = a });
+      report = report;
+    })
     (answer-room (certificateIn p) (issuerIn p) room (profileIn p) other h)
     (report-room (certificateIn p) (issuerIn p) room other h (profileIn p))
 same-handed room other h (lost-at position loss) = refl
@@ -66,13 +70,15 @@ module _ (d : List ℕ) (i : ℕ) where
 -- ---- the walk
 
 abbrev Later : ℕ → List ℕ → List ℕ → Type 0
-Later n d other = (i : ℕ) (room : List ℕ) → length room ≡ length other → length (blocks d) ≤ i + n → walk n d i room ≡ allHandedOver other (reading 0 i (from d i))
+Later n d other =
+    (i : ℕ) (room : List ℕ) → length room ≡ length other → length (blocks d) ≤ i + n → walk n d i room ≡ allHandedOver other (reading 0 i (from d i))
 
 module _ (n : ℕ) (d other : List ℕ) (i : ℕ) (room : List ℕ) where
   past-end : length d ≤ 512 * i → walk (suc n) d i room ≡ allHandedOver other (reading 0 i (from d i))
   past-end k = rw (ended d i room k, from-nil d i k)
 
-  inside : Later n d other → length room ≡ length other → length (blocks d) ≤ i + suc n → 512 * i < length d → walk (suc n) d i room ≡ allHandedOver other (reading 0 i (from d i))
+  inside : Later n d other → length room ≡ length other → length (blocks d) ≤ i + suc n → 512 * i < length d
+      → walk (suc n) d i room ≡ allHandedOver other (reading 0 i (from d i))
   inside later h l k =
       let e : Event = eventAt d i in
       let m : ℕ = blocksIn (foundAt d i) in

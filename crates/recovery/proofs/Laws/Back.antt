@@ -38,8 +38,10 @@ run-item number p h₀ hnumber ok deck position lent rest inside e = (
 )
 
 -- the step at the record's blocks
-blocks-read : (number : ℕ) (p : List ℕ) → 0 < number → number < 2 ^ 32 → Proper p → (before after lent : List ℕ) (position : ℕ) → length before ≡ 512 * position
-    → (itemAt (before ++ (joined (blocksOf number p) ++ after)) position lent ≡ Items.Record (lintedRecord number p lent)) × (roomAt (before ++ (joined (blocksOf number p) ++ after)) position lent ≡ lintedRoom p lent)
+blocks-read : (number : ℕ) (p : List ℕ) → 0 < number → number < 2 ^ 32 → Proper p → (before after lent : List ℕ) (position : ℕ)
+    → length before ≡ 512 * position
+    → (itemAt (before ++ (joined (blocksOf number p) ++ after)) position lent ≡ Items.Record (lintedRecord number p lent))
+    × (roomAt (before ++ (joined (blocksOf number p) ++ after)) position lent ≡ lintedRoom p lent)
 blocks-read number p h₀ hnumber ok before after lent position h =
     let bs : List (List ℕ) = blocksOf number p in
     let short : length p < 65536 = omega (arith, ok .most) in

@@ -128,7 +128,8 @@ module _ (number n : ℕ) where
 -- ---- one record
 
 module _ (number : ℕ) (p : List ℕ) (h₀ : 0 < number) (hnumber : number < 2 ^ 32) (ok : Proper p) where
-  pub whole-record : (at : ℕ) (rest : List (List ℕ)) → reading 0 at (blocksOf number p ++ rest) ≡ record-at at number p ∷ reading 0 (at + parts (length p)) rest
+  pub whole-record : (at : ℕ) (rest : List (List ℕ))
+      → reading 0 at (blocksOf number p ++ rest) ≡ record-at at number p ∷ reading 0 (at + parts (length p)) rest
   whole-record at rest =
       past-record at (blocksOf number p ++ rest) (blocks-start p ok number h₀ hnumber rest)
       ∙ rw (

@@ -37,7 +37,8 @@ module _ (room : List ℕ) where
 
   items-lost : (position : ℕ) (bs : List (List ℕ)) → allHandedOver room (lostEvents position bs) ≡ allLost position bs
   items-lost position [] = refl
-  items-lost position (b ∷ bs) = ap (λ (later : List Handed). record { position = position; item = Items.Lost (lossOf b); report = [] } ∷ later) (items-lost (suc position) bs)
+  items-lost position (b ∷ bs) =
+      ap (λ (later : List Handed). record { position = position; item = Items.Lost (lossOf b); report = [] } ∷ later) (items-lost (suc position) bs)
 
   items-fate : (t : Bool) (position number : ℕ) (s : Submitted) (bs : List (List ℕ)) → Writable s
       → allHandedOver room (fateEvents t position number (octetsOf s) bs) ≡ fate t room position number s bs
@@ -100,7 +101,8 @@ behind-expected room [] position number cs ok h = omega arith
 behind-expected room (s ∷ ss) position number cs ok h =
     let k : ℕ = extent s in
     let long : length cs ≡ k + length (written (suc number) ss) =
-    h ∙ length-append (blocksOf number (octetsOf s)) (written (suc number) ss) ∙ ap (λ (m : ℕ). m + length (written (suc number) ss)) (blocks-count (octetsOf s) number) in
+    h ∙ length-append (blocksOf number (octetsOf s)) (written (suc number) ss)
+    ∙ ap (λ (m : ℕ). m + length (written (suc number) ss)) (blocks-count (octetsOf s) number) in
     let rest : length (drop k cs) ≡ length (written (suc number) ss) = rw length-drop (omega arith) in
     let e : position + k + length (drop k cs) ≡ position + length cs = omega arith in
     behind-append

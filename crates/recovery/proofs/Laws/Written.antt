@@ -21,7 +21,8 @@ use Rattle.writer.proofs.Laws.Cutting.{filled-length}
 use Rattle.reader.specs.Runs.{isPart, areParts, dataFrom, isWhole, run, first, starts, recordFrom}
 use Rattle.recovery.proofs.Laws.Taken.{Proper}
 
-pub block-is-part : (number n j : ℕ) (content : List ℕ) → number < 2 ^ 32 → n < 65536 → length content ≡ 502 → isPart number n j (blockOf number n j content) ≡ true
+pub block-is-part : (number n j : ℕ) (content : List ℕ) → number < 2 ^ 32 → n < 65536 → length content ≡ 502
+    → isPart number n j (blockOf number n j content) ≡ true
 unfolding isPart
 block-is-part number n j content hnumber hn h =
     and-both (block-sound number n j content hnumber hn h)

@@ -49,7 +49,8 @@ room-taken count all room = go (leb (512 * all) room) refl
         (rw same (leb-true (512 * all) room t), same)
     go false t e = absurd (refused NoRoom count e)
 
-admission-taken : (admission : Judgement) (number count room all : ℕ) → byAdmission admission number all room ≡ Blocks count → Taken admission number count room all
+admission-taken : (admission : Judgement) (number count room all : ℕ) → byAdmission admission number all room ≡ Blocks count
+    → Taken admission number count room all
 admission-taken (Judgements.Refused r) number count room all e = absurd (refused r count e)
 admission-taken (Judgements.Accepted p) number count room all e = go (eqb number 0) refl e
   where
@@ -64,7 +65,8 @@ module _ (number profile : ℕ) (certificate issuer room : List ℕ) where
       → Taken (admissionOf (length certificate) (length issuer) profile) number count (length room) (parts (length (recordOf profile certificate issuer)))
   unfolding writeAnswer
   taken-only count e =
-      admission-taken (admissionOf (length certificate) (length issuer) profile) number count (length room) (parts (length (recordOf profile certificate issuer))) e
+      admission-taken (admissionOf (length certificate) (length issuer) profile) number count (length room)
+      (parts (length (recordOf profile certificate issuer))) e
 
   pub answered : (r : Answer) (last : List ℕ) → writeAnswer number profile certificate issuer room ≡ r
       → last ≡ roomAfter r (blocksOf number (recordOf profile certificate issuer)) room → Written number profile certificate issuer room r last
@@ -76,7 +78,8 @@ abbrev Nowhere : Answer → Type 0
 Nowhere (Refused r) = placeOf r ≡ 0
 Nowhere (Blocks count) = Unit {0}
 
-pub refused-nowhere : (number profile : ℕ) (certificate issuer room : List ℕ) (r : Refusal) → writeAnswer number profile certificate issuer room ≡ Refused r → placeOf r ≡ 0
+pub refused-nowhere : (number profile : ℕ) (certificate issuer room : List ℕ) (r : Refusal)
+    → writeAnswer number profile certificate issuer room ≡ Refused r → placeOf r ≡ 0
 unfolding writeAnswer
 refused-nowhere number profile certificate issuer room r e =
     subst Nowhere e (go (admissionOf (length certificate) (length issuer) profile) refl (parts (length (recordOf profile certificate issuer))))
@@ -86,6 +89,7 @@ refused-nowhere number profile certificate issuer room r e =
     tested false true count = tt
     tested false false count = refl
 
-    go : (admission : Judgement) → admissionOf (length certificate) (length issuer) profile ≡ admission → (count : ℕ) → Nowhere (byAdmission admission number count (length room))
+    go : (admission : Judgement) → admissionOf (length certificate) (length issuer) profile ≡ admission → (count : ℕ)
+        → Nowhere (byAdmission admission number count (length room))
     go (Judgements.Refused q) t count = admission-nowhere (length certificate) (length issuer) profile q t .place
     go (Judgements.Accepted p) t count = tested (eqb number 0) (leb (512 * count) (length room)) count

@@ -1,5 +1,6 @@
 -- A record cut into blocks.
---     from-count, from-long, from-snoc, from-front     k blocks from a part on: how many, how long, one more, and that they hold no more than k * 502 octets of the data
+--     from-count, from-long, from-snoc, from-front     k blocks from a part on: how many, how long, one more, and that they hold
+--                                                      no more than k * 502 octets of the data
 --     joined-append, joined-length                     blocks one behind the other
 --     filled-length                                    a record with its fill has whole parts
 --     blocks-count, blocks-long, blocks-length         the blocks of a record
@@ -33,7 +34,8 @@ module _ (number n : ℕ) where
   from-count zero j d = refl
   from-count (suc k) j d = ap suc (from-count k (suc j) (drop 502 d))
 
-  pub from-snoc : (k j : ℕ) (d : List ℕ) → blocksFrom number n j (suc k) d ≡ blocksFrom number n j k d ++ (blockOf number n (j + k) (take 502 (drop (k * 502) d)) ∷ [])
+  pub from-snoc : (k j : ℕ) (d : List ℕ)
+      → blocksFrom number n j (suc k) d ≡ blocksFrom number n j k d ++ (blockOf number n (j + k) (take 502 (drop (k * 502) d)) ∷ [])
   from-snoc zero j d = ap (λ (m : ℕ). blockOf number n m (take 502 d) ∷ []) (omega arith)
   from-snoc (suc k) j d =
       let e : 502 + k * 502 ≡ suc k * 502 = omega arith in
@@ -46,7 +48,8 @@ module _ (number n : ℕ) where
   pub from-front : (k j : ℕ) (d rest : List ℕ) → k * 502 ≤ length d → blocksFrom number n j k (d ++ rest) ≡ blocksFrom number n j k d
   from-front zero j d rest h = refl
   from-front (suc k) j d rest h =
-      ap₂ (λ (b l : List ℕ). blockOf number n j b ∷ blocksFrom number n (suc j) k l) (take-append-le 502 d rest (omega arith)) (drop-append-le 502 d rest (omega arith))
+      ap₂ (λ (b l : List ℕ). blockOf number n j b ∷ blocksFrom number n (suc j) k l) (take-append-le 502 d rest (omega arith))
+      (drop-append-le 502 d rest (omega arith))
       ∙ ap (λ (bs : List (List ℕ)). blockOf number n j (take 502 d) ∷ bs) (from-front k (suc j) (drop 502 d) rest (simp length-drop (omega arith)))
 
   pub from-long : number < 2 ^ 32 → n < 65536 → (k j : ℕ) (d : List ℕ) → k * 502 ≤ length d → AllLong (blocksFrom number n j k d)

@@ -39,8 +39,10 @@ laid-out profile certificate issuer desk d₁ d₂ d₃ h e₁ e₂ e₃ =
     let l₂ : d₂ ≡ (head ++ certificate) ++ drop (length certificate) (drop 3 desk) =
     e₂ ∙ ap (λ (l : List ℕ). copied certificate 0 (length certificate) l 3) e₁
     ∙ copied-behind certificate head (drop 3 desk) 3 refl (simp length-drop (omega arith)) in
-    e₃ ∙ ap (λ (l : List ℕ). copied issuer 0 (length issuer) l (3 + length certificate)) (l₂ ∙ ap (λ (l : List ℕ). (head ++ certificate) ++ l) (drop-drop (length certificate) 3 desk))
-    ∙ copied-behind issuer (head ++ certificate) (drop (3 + length certificate) desk) (3 + length certificate) (simp length-append (omega arith)) (simp length-drop (omega arith))
+    e₃ ∙ ap (λ (l : List ℕ). copied issuer 0 (length issuer) l (3 + length certificate))
+    (l₂ ∙ ap (λ (l : List ℕ). (head ++ certificate) ++ l) (drop-drop (length certificate) 3 desk))
+    ∙ copied-behind issuer (head ++ certificate) (drop (3 + length certificate) desk) (3 + length certificate)
+    (simp length-append (omega arith)) (simp length-drop (omega arith))
     ∙ ap₂ (λ (a b : List ℕ). a ++ b) (append-assoc head certificate issuer) (drop-drop (length issuer) (3 + length certificate) desk)
 
 -- zeros behind a record: those of its fill, and more

@@ -18,7 +18,8 @@ use Rattle.blocks.specs.Block.{checkOf, bodyOf, blockOf}
 use Rattle.writer.specs.Cutting.{blocksFrom, joined}
 use Rattle.writer.proofs.Laws.Cutting.{from-count, from-long, from-snoc, joined-append, joined-length}
 
-pub check-put : (b : List ℕ) (check : ℕ) → length b ≡ 512 → check ≡ checkOf (take 510 b) → sets b 510 (pairOf check) ≡ take 510 b ++ pairOf (checkOf (take 510 b))
+pub check-put : (b : List ℕ) (check : ℕ) → length b ≡ 512 → check ≡ checkOf (take 510 b)
+    → sets b 510 (pairOf check) ≡ take 510 b ++ pairOf (checkOf (take 510 b))
 check-put b check h e =
     sets-eq (pairOf check) b 510 (omega arith)
     ∙ rw (drop-of-length-le b {i = 512} (omega arith), append-nil) (ap (λ (n : ℕ). take 510 b ++ pairOf n) e)

@@ -80,7 +80,12 @@ module _ (number profile : ℕ) (certificate issuer room : List ℕ) where
       let t = taken-only number profile certificate issuer room count e in
       let bs : List ℕ = joined (blocksOf number (recordOf profile certificate issuer)) in
       let short : length (recordOf profile certificate issuer) < 65536 =
-      omega (arith, record-length profile certificate issuer, admitted-certificate _ _ _ (t .for) (t .admitted) .1, admitted-issuer _ _ _ (t .for) (t .admitted) .1) in
+      omega (
+        arith,
+        record-length profile certificate issuer,
+        admitted-certificate _ _ _ (t .for) (t .admitted) .1,
+        admitted-issuer _ _ _ (t .for) (t .admitted) .1,
+      ) in
       let long : length bs ≡ 512 * count =
       blocks-length (recordOf profile certificate issuer) number hnumber short ∙ ap (λ (n : ℕ). 512 * n) (sym (t .counted)) in
       rw e

@@ -6,8 +6,8 @@ use Prim.Native.Nat.{ℕ, _+_, _*_, _-_, _≤_}
 use native.Mathlib.Omega.{arith}
 use lib.ListN.{length}
 use borrow.Author.Needs.{needs}
-use Rattle.reader.specs.Finding.{foundAt, blocksIn}
-use Rattle.reader.proofs.Laws.Counts.{step}
+use Rattle.reader.specs.Stepping.{itemBlocks, itemAt}
+use Rattle.reader.proofs.Laws.Passing.{item-within}
 use Rattle.answers.proofs.decks.say_steps.Statement.{statement}
 use Rattle.answers.proofs.decks.say_steps.Tie as tie
 
@@ -17,30 +17,28 @@ Inv-loop deck room₀ position₀ room position = (length room ≡ length room�
 abbrev μ-loop : tie.MeasureT-loop
 μ-loop deck room₀ position₀ room position = length deck + 511 - 512 * position
 
--- after a step: the room, and where the blocks end that were passed
-module _ (c : tie.After-blocks-in Inv-loop μ-loop) where
+-- after a step: where the blocks end that it passed
+module _ (c : tie.After-item-blocks Inv-loop μ-loop) where
   abbrev deck : List ℕ
-  deck = c .before .before .before .before .before .before .before .before .before .args .deck .now
+  deck = c .before .before .before .before .before .before .before .before .args .deck .now
 
-  abbrev at : ℕ
-  at = c .before .before .before .before .before .before .loop .position
+  abbrev turn : tie.At-loop Inv-loop μ-loop
+  turn = c .before .before .before .before .before
 
-  within : 512 * (at + c .blocks-in .result) ≤ length deck + 511
+  within : 512 * (turn .loop .position + c .item-blocks .result) ≤ length deck + 511
   within =
-      let passed : c .blocks-in .result ≡ blocksIn (foundAt deck at) = c .blocks-in .ensures ∙ ap blocksIn (c .before .find .ensures) in
-      omega (arith, passed, step deck at (c .before .before .before .before .before .before .loop .inv .1) .within)
+      let passed : c .item-blocks .result ≡ itemBlocks (itemAt deck (turn .loop .position) (turn .loop .room)) =
+      c .item-blocks .ensures ∙ ap itemBlocks (c .before .before .before .step .ensures .told) in
+      omega (arith, passed, item-within deck (turn .loop .position) (turn .loop .room) (turn .loop .inv .1))
 
 loop-holds : tie.Need-loop-holds Inv-loop μ-loop
 loop-holds c = (refl, omega arith)
 
-say-step-requires : tie.Need-say-step-requires Inv-loop μ-loop
-say-step-requires c κs = search needs
+step-requires : tie.Need-step-requires Inv-loop μ-loop
+step-requires c κs = search needs
 
-find-requires : tie.Need-find-requires Inv-loop μ-loop
-find-requires c κs = search needs
-
-blocks-in-requires : tie.Need-blocks-in-requires Inv-loop μ-loop
-blocks-in-requires c κs = search needs
+item-blocks-requires : tie.Need-item-blocks-requires Inv-loop μ-loop
+item-blocks-requires c κs = search needs
 
 same-length : tie.Need-same-length Inv-loop μ-loop
 same-length c = search needs
@@ -48,14 +46,17 @@ same-length c = search needs
 returns : tie.Need-returns Inv-loop μ-loop
 returns c = tt
 
+say-item-requires : tie.Need-say-item-requires Inv-loop μ-loop
+say-item-requires c κs = search needs
+
 add-position : tie.Need-add-position Inv-loop μ-loop
-add-position c = omega (arith, within (c .before))
+add-position c = omega (arith, within (c .before .before .before))
 
 loop-less : tie.Need-loop-less Inv-loop μ-loop
-loop-less c = omega (arith, within (c .before))
+loop-less c = omega (arith, within (c .before .before .before))
 
 loop-again : tie.Need-loop-again Inv-loop μ-loop
-loop-again c = (search needs, within (c .before))
+loop-again c = (search needs, within (c .before .before .before))
 
 pub say-steps-spec : {M : Type 1} → statement M
 say-steps-spec =
@@ -64,11 +65,11 @@ say-steps-spec =
     Inv-loop
     μ-loop
     loop-holds
-    say-step-requires
-    find-requires
-    blocks-in-requires
+    step-requires
+    item-blocks-requires
     same-length
     returns
+    say-item-requires
     add-position
     loop-less
     loop-again)

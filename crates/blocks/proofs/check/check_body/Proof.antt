@@ -1,86 +1,83 @@
--- `blocks::check::check_body` meets its contract: the sum is 1 plus the weighted sum of the octets passed, each of which adds at most 510 * 255.
--- Assumes nothing.
-use mathlib.Core.Path.{_≡_, ap}
-use Prim.Native.Nat.{ℕ, _+_, _*_, _-_, _%_, _≤_}
-use native.Mathlib.Nat.{mul-le-mul}
-use native.Mathlib.Numerals.{add-one}
+-- `blocks::check::check_body` meets its contract: the two sums make the weighted one. Assumes nothing.
+use mathlib.Core.Path.{_≡_, ap, _∙_}
+use Prim.Native.Nat.{ℕ, _+_, _*_, _-_, _%_}
 use native.Mathlib.Omega.{arith}
-use lib.ListN.{length, take, getD}
+use lib.ListN.{length, take, drop, length-drop}
 use lib.Seq.{take-all}
+use borrow.Author.Needs.{needs}
 use Rattle.blocks.specs.Block.{weigh, checkOf}
-use Rattle.blocks.proofs.Laws.Weigh.{weigh-take}
+use Rattle.blocks.proofs.Laws.Weigh.{weigh-short, weigh-long}
 use Rattle.blocks.proofs.check.check_body.Statement.{statement}
 use Rattle.blocks.proofs.check.check_body.Tie as tie
 
-abbrev Inv-loop : tie.InvT-loop
-Inv-loop body sum₀ i₀ sum i = (i ≤ length body) × (sum ≡ 1 + weigh 1 (take i body)) × (sum ≤ 1 + 130050 * i)
+low-sum-requires : tie.Need-low-sum-requires
+low-sum-requires c κs = search needs
 
-abbrev μ-loop : tie.MeasureT-loop
-μ-loop body sum₀ i₀ sum i = length body - i
+add-result : tie.Need-add-result
+add-result c = search needs
 
--- what the octet at i adds
-small : (c : tie.After-shared-slice-known Inv-loop μ-loop)
-    → (c .before .before .loop .i + 1) * getD (c .before .before .before .args .body .now) (c .before .before .loop .i) 0 ≤ 130050
-small c = mul-le-mul {n₂ = 510} {m₂ = 255} (omega arith) (omega (arith, c .shared-slice-known .given (c .before .before .loop .i)))
+cast-result : tie.Need-cast-result
+cast-result c = search needs
 
-loop-holds : tie.Need-loop-holds Inv-loop μ-loop
-loop-holds c = omega arith
-
-add-sum : tie.Need-add-sum Inv-loop μ-loop
-add-sum c = omega arith
-
-shared-slice-read-sum : tie.Need-shared-slice-read-sum Inv-loop μ-loop
-shared-slice-read-sum c = omega arith
-
-cast-sum : tie.Need-cast-sum Inv-loop μ-loop
-cast-sum c = omega arith
-
-cast-sum-2 : tie.Need-cast-sum-2 Inv-loop μ-loop
-cast-sum-2 c = omega (arith, c .shared-slice-known .given (c .before .before .loop .i))
-
-mul-sum : tie.Need-mul-sum Inv-loop μ-loop
-mul-sum c = omega (arith, small c)
-
-add-sum-2 : tie.Need-add-sum-2 Inv-loop μ-loop
-add-sum-2 c = omega (arith, small c)
-
-add-i : tie.Need-add-i Inv-loop μ-loop
-add-i c = omega arith
-
-loop-less : tie.Need-loop-less Inv-loop μ-loop
-loop-less c = omega arith
-
-loop-again : tie.Need-loop-again Inv-loop μ-loop
-loop-again c =
-    let body = c .before .before .before .args .body .now in
-    let i = c .before .before .loop .i in
-    (omega arith, rw add-one (omega (arith, weigh-take body i (omega arith))), omega (arith, small c))
-
-cast-result : tie.Need-cast-result Inv-loop μ-loop
-cast-result c = omega arith
-
-returns : tie.Need-returns Inv-loop μ-loop
+returns : tie.Need-returns
 unfolding checkOf
 returns c =
-    let body = c .before .before .args .body .now in
-    let all : take (c .before .loop .i) body ≡ body = take-all (c .before .loop .i) body (omega arith) in
-    (ap (λ (n : ℕ). n % 65521) (rw all at (c .before .loop .inv .1)), omega arith)
+    let body = c .before .before .before .args .body .now in
+    (ap (λ (n : ℕ). (1 + n) % 65521) (c .before .low-sum .ensures .0 ∙ weigh-short body (omega arith)), omega arith)
+
+sub-plain-sum : tie.Need-sub-plain-sum
+sub-plain-sum c = search needs
+
+part-plain-sum-start : tie.Need-part-plain-sum-start
+part-plain-sum-start c = search needs
+
+part-plain-sum-end : tie.Need-part-plain-sum-end
+part-plain-sum-end c = search needs
+
+plain-sum-requires : tie.Need-plain-sum-requires
+plain-sum-requires c κs = search needs
+
+add-result-2 : tie.Need-add-result-2
+add-result-2 c = search needs
+
+cast-result-2 : tie.Need-cast-result-2
+cast-result-2 c = search needs
+
+mul-result : tie.Need-mul-result
+mul-result c = search needs
+
+add-result-3 : tie.Need-add-result-3
+add-result-3 c = search needs
+
+cast-result-3 : tie.Need-cast-result-3
+cast-result-3 c = search needs
+
+returns-2 : tie.Need-returns-2
+unfolding checkOf
+returns-2 c =
+    let body = c .before .before .before .before .before .args .body .now in
+    let all : take (length body - 255) (drop 255 body) ≡ drop 255 body = take-all (length body - 255) (drop 255 body) (simp length-drop (omega arith)) in
+    let low = c .before .before .before .low-sum .ensures .0 in
+    let high : weigh 1 (drop 255 body) ≡ weigh 0 (drop 255 body) + c .plain-sum .result = rw all at (c .plain-sum .ensures) in
+    let sum : 1 + c .before .before .before .low-sum .result + 256 * c .plain-sum .result ≡ 1 + weigh 1 body =
+    omega (arith, low, weigh-long body (c .plain-sum .result) (omega arith) high) in
+    (ap (λ (n : ℕ). n % 65521) sum, omega arith)
 
 pub check-body-spec : {M : Type 1} → statement M
 check-body-spec =
     tie.close
     (tie.spec
-    Inv-loop
-    μ-loop
-    loop-holds
-    cast-sum
-    add-sum
-    shared-slice-read-sum
-    cast-sum-2
-    mul-sum
-    add-sum-2
-    add-i
-    loop-less
-    loop-again
+    low-sum-requires
+    add-result
     cast-result
-    returns)
+    returns
+    sub-plain-sum
+    part-plain-sum-start
+    part-plain-sum-end
+    plain-sum-requires
+    add-result-2
+    cast-result-2
+    mul-result
+    add-result-3
+    cast-result-3
+    returns-2)

@@ -1,11 +1,8 @@
 -- `blocks::check::check_of` meets its contract: 510 octets or fewer are taken. Assumes nothing.
-use mathlib.Core.Path.{_≡_}
-use Prim.Native.Nat.{_<_}
 use native.Mathlib.Omega.{arith}
-use lib.ListN.{length, take, length-take}
+use lib.ListN.{length-take}
 use lib.Seq.{take-all}
 use borrow.Author.Needs.{needs}
-use Rattle.blocks.specs.Block.{checkOf}
 use Rattle.blocks.proofs.check.check_of.Statement.{statement}
 use Rattle.blocks.proofs.check.check_of.Tie as tie
 

@@ -43,8 +43,10 @@ returns c =
     let a = c .before .before .before .before .before .before .args in
     let j = c .before .before .before .before .loop .j in
     let f : isPart (a .number) (a .n) j (blockAt (a .deck .now) (a .position + j)) ≡ false =
-    ap (λ (l : List ℕ). isPart (a .number) (a .n) j l) (sym (c .before .before .block-at .ensures)) ∙ sym (c .before .is-part .ensures) ∙ not-true (c .before .is-part .result) (c .if1 .taken) in
-    sym (c .before .before .before .before .loop .inv .2 ∙ parts-next (a .number) (a .n) j (a .k) (a .deck .now) (a .position) (omega arith) (omega arith) ∙ and-not-left _ f)
+    ap (λ (l : List ℕ). isPart (a .number) (a .n) j l) (sym (c .before .before .block-at .ensures)) ∙ sym (c .before .is-part .ensures)
+    ∙ not-true (c .before .is-part .result) (c .if1 .taken) in
+    sym (c .before .before .before .before .loop .inv .2
+    ∙ parts-next (a .number) (a .n) j (a .k) (a .deck .now) (a .position) (omega arith) (omega arith) ∙ and-not-left _ f)
 
 add-j : tie.Need-add-j Inv-loop μ-loop
 add-j c = omega arith
@@ -57,11 +59,13 @@ loop-again c =
     let a = c .before .before .before .before .before .before .args in
     let j = c .before .before .before .before .loop .j in
     let t : isPart (a .number) (a .n) j (blockAt (a .deck .now) (a .position + j)) ≡ true =
-    ap (λ (l : List ℕ). isPart (a .number) (a .n) j l) (sym (c .before .before .block-at .ensures)) ∙ sym (c .before .is-part .ensures) ∙ not-false (c .before .is-part .result) (c .if1 .left) in
+    ap (λ (l : List ℕ). isPart (a .number) (a .n) j l) (sym (c .before .before .block-at .ensures)) ∙ sym (c .before .is-part .ensures)
+    ∙ not-false (c .before .is-part .result) (c .if1 .left) in
     let w : 512 * (a .position + j) + 512 ≤ length (a .deck .now) = block-whole (a .deck .now) (a .position + j) (part-sound _ _ _ _ t) in (
       omega arith,
       omega arith,
-      c .before .before .before .before .loop .inv .2 ∙ parts-next (a .number) (a .n) j (a .k) (a .deck .now) (a .position) (omega arith) (omega arith) ∙ and-passed _ t,
+      c .before .before .before .before .loop .inv .2
+          ∙ parts-next (a .number) (a .n) j (a .k) (a .deck .now) (a .position) (omega arith) (omega arith) ∙ and-passed _ t,
     )
 
 returns-2 : tie.Need-returns-2 Inv-loop μ-loop

@@ -12,7 +12,7 @@ use Rattle.reader.specs.Events.{lossIf, lossOf}
 use Rattle.reader.specs.Finding.{foundAt}
 use Rattle.reader.specs.declared.finding.Loss.{Loss}
 use Rattle.reader.specs.declared.finding.Found.the-variants.{Record, Lost}
-use Rattle.reader.proofs.Laws.Starts.{found-none, found-record, found-lost, block-inside, block-none, loss-short, loss-whole}
+use Rattle.reader.proofs.Laws.Found.{found-none, found-record, found-lost, block-inside, block-none, loss-short, loss-whole}
 use Rattle.reader.proofs.finding.find.Statement.{statement}
 use Rattle.reader.proofs.finding.find.Tie as tie
 
@@ -67,7 +67,8 @@ length-of-requires c κs = search needs
 returns-2 : tie.Need-returns-2
 returns-2 c =
     let s : tie.After-block-at = c .before .before .before .before .before in
-    sym (found-record (deck s) (position s) (inside (c .before .before .before .before)) (sym (c .before .before .before .is-start .ensures) ∙ c .before .before .if2 .taken)
+    sym (found-record (deck s) (position s) (inside (c .before .before .before .before))
+    (sym (c .before .before .before .is-start .ensures) ∙ c .before .before .if2 .taken)
     ∙ ap₂ (λ (a b : ℕ). Record a b)
     (ap numberOf (sym (s .block-at .ensures)) ∙ sym (c .before .number-of .ensures .0))
     (ap lengthOf (sym (s .block-at .ensures)) ∙ sym (c .length-of .ensures .0)))

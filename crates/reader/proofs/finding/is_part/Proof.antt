@@ -24,7 +24,8 @@ returns : tie.Need-returns
 returns c =
     let a = c .before .before .before .before .before .before .before .args in
     rw (c .before .before .before .number-of .ensures .0, c .before .before .length-of .ensures .0, c .before .part-of .ensures .0, c .is-clear .ensures)
-    (sym (part-by (a .number) (a .n) (a .j) (a .block .now) (sym (c .before .before .before .before .before .is-sound .ensures) ∙ c .before .before .before .before .if1 .taken)))
+    (sym (part-by (a .number) (a .n) (a .j) (a .block .now)
+    (sym (c .before .before .before .before .before .is-sound .ensures) ∙ c .before .before .before .before .if1 .taken)))
 
 returns-2 : tie.Need-returns-2
 returns-2 c =

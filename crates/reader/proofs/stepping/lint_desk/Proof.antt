@@ -45,7 +45,8 @@ returns c =
     let call = c .before .before in
     let reads = call .before .before .before .before in
     let a = reads .before .before .before .before .args in
-    desk-linted (a .desk .now) (a .n) _ (ap (λ (m : ℕ). 3 + m) (reads .pair .ensures .0)) (omega arith) (omega arith) (a .number) _ (a .room .now) _ _ (reads .before .octet .ensures) (call .lint .ensures)
+    desk-linted (a .desk .now) (a .n) _ (ap (λ (m : ℕ). 3 + m) (reads .pair .ensures .0)) (omega arith) (omega arith) (a .number) _
+    (a .room .now) _ _ (reads .before .octet .ensures) (call .lint .ensures)
 
 pub lint-desk-spec : {M : Type 1} → statement M
 lint-desk-spec =

@@ -1,7 +1,7 @@
 -- `reader::stepping::step` meets its contract. Assumes nothing.
 use mathlib.Core.Path.{sym, _∙_}
 use borrow.Author.Needs.{needs}
-use Rattle.reader.proofs.Laws.Starts.{start-of}
+use Rattle.reader.proofs.Laws.Found.{start-of}
 use Rattle.reader.proofs.Laws.Stepping.{step-record, step-lost, step-end}
 use Rattle.reader.proofs.stepping.step.Statement.{statement}
 use Rattle.reader.proofs.stepping.step.Tie as tie

@@ -30,7 +30,8 @@ returns c =
     let head = copied .before .before .before .before in
     let start = head .before .before .before .before in
     let a = start .args in
-    block-put (a .number) (a .n) (a .part) (a .part * 502) (a .desk .now) (a .block .now) _ _ _ (start .pre .2) (start .pre .0) (head .put-head .ensures) (copied .copy .ensures) (check .put-check .ensures)
+    block-put (a .number) (a .n) (a .part) (a .part * 502) (a .desk .now) (a .block .now) _ _ _ (start .pre .2) (start .pre .0)
+    (head .put-head .ensures) (copied .copy .ensures) (check .put-check .ensures)
 
 pub put-block-spec : {M : Type 1} → statement M
 put-block-spec =

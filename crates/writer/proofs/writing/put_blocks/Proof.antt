@@ -12,7 +12,8 @@ use Rattle.writer.proofs.writing.put_blocks.Statement.{statement}
 use Rattle.writer.proofs.writing.put_blocks.Tie as tie
 
 abbrev Inv-loop : tie.InvT-loop
-Inv-loop number n count desk room₀ part₀ room part = (part ≤ count) × (length room ≡ length room₀) × (room ≡ joined (blocksFrom number n 0 part desk) ++ drop (512 * part) room₀)
+Inv-loop number n count desk room₀ part₀ room part =
+    (part ≤ count) × (length room ≡ length room₀) × (room ≡ joined (blocksFrom number n 0 part desk) ++ drop (512 * part) room₀)
 
 abbrev μ-loop : tie.MeasureT-loop
 μ-loop number n count desk room₀ part₀ room part = count - part
@@ -51,7 +52,8 @@ loop-again c =
     let start = turn .before .before .before in
     let a = start .args in
     let j = turn .loop .part in
-    let next = room-step (a .number) (a .n) j (a .desk .now) (a .room .now) (omega arith) (omega arith) (turn .loop .room) (call .put-block .last .1 .1 .1 .1 .0)
+    let next =
+    room-step (a .number) (a .n) j (a .desk .now) (a .room .now) (omega arith) (omega arith) (turn .loop .room) (call .put-block .last .1 .1 .1 .1 .0)
     (omega arith) (turn .loop .inv .2) (call .put-block .ensures) in
     rw add-one
     (omega arith, room-length (a .number) (a .n) (suc j) (a .desk .now) (a .room .now) (omega arith) (omega arith) _ (omega arith) (omega arith) next, next)

@@ -41,7 +41,8 @@ returns c =
     let start = laid .before .before .before .before .before in
     let a = start .args in
     let few : a .count ≤ 33 = parts-few (a .profile) (a .certificate .now) (a .issuer .now) (a .count) (start .pre .2) (start .pre .0) (start .pre .1) in
-    record-put (a .profile) (a .certificate .now) (a .issuer .now) (a .count) (start .pre .2) (a .number) 16566 (laid .lay-out .last .1 .1 .1 .0) (a .room .now) _ (omega (arith, few)) (laid .lay-out .ensures) (put .put-blocks .ensures)
+    record-put (a .profile) (a .certificate .now) (a .issuer .now) (a .count) (start .pre .2) (a .number) 16566
+    (laid .lay-out .last .1 .1 .1 .0) (a .room .now) _ (omega (arith, few)) (laid .lay-out .ensures) (put .put-blocks .ensures)
 
 pub put-record-spec : {M : Type 1} → statement M
 put-record-spec =

@@ -21,7 +21,8 @@ module _ (c : tie.After-enum-told) where
   abbrev began : tie.Start
   began = c .before .before .before .before .before .before
 
-  admitted : admissionOf (length (began .args .certificate .now)) (length (began .args .issuer .now)) (began .args .profile) ≡ Accepted (c .enum-told .given .0 .0)
+  admitted : admissionOf (length (began .args .certificate .now)) (length (began .args .issuer .now)) (began .args .profile)
+      ≡ Accepted (c .enum-told .given .0 .0)
   admitted = sym (c .before .before .admit .ensures) ∙ c .enum-told .given .1
 
   short-certificate : length (began .args .certificate .now) ≤ 8192
@@ -31,7 +32,9 @@ module _ (c : tie.After-enum-told) where
   short-issuer = admitted-issuer _ _ _ _ admitted .1
 
 -- the parts counted are the record's
-counted : (c : tie.After-parts-of) → c .parts-of .result ≡ parts (length (recordOf (began (c .before .before) .args .profile) (began (c .before .before) .args .certificate .now) (began (c .before .before) .args .issuer .now)))
+counted : (c : tie.After-parts-of)
+    → let a = began (c .before .before) .args in
+    c .parts-of .result ≡ parts (length (recordOf (a .profile) (a .certificate .now) (a .issuer .now)))
 counted c =
     let a = began (c .before .before) .args in
     c .parts-of .ensures ∙ ap parts (sym (record-length (a .profile) (a .certificate .now) (a .issuer .now)))
@@ -47,7 +50,8 @@ returns c =
     let told = c .before in
     let a = told .before .before .before .before .before .before .args in
     answered (a .number) (a .profile) (a .certificate .now) (a .issuer .now) (a .room .now) _ (a .room .now)
-    (refused-first (a .number) (a .profile) (a .certificate .now) (a .issuer .now) (a .room .now) _ (sym (told .before .before .admit .ensures) ∙ told .admission .given .1))
+    (refused-first (a .number) (a .profile) (a .certificate .now) (a .issuer .now) (a .room .now) _
+    (sym (told .before .before .admit .ensures) ∙ told .admission .given .1))
     refl
 
 enum-told : tie.Need-enum-told
@@ -77,7 +81,8 @@ returns-3 c =
     let first = c .before .before .before in
     let a = began first .args in
     answered (a .number) (a .profile) (a .certificate .now) (a .issuer .now) (a .room .now) (Refused NoRoom) (a .room .now)
-    (refused-room (a .number) (a .profile) (a .certificate .now) (a .issuer .now) (a .room .now) _ (admitted first) (c .before .before .if1 .left) (rw (← counted (c .before)) (c .if2 .taken)))
+    (refused-room (a .number) (a .profile) (a .certificate .now) (a .issuer .now) (a .room .now) _ (admitted first)
+    (c .before .before .if1 .left) (rw (← counted (c .before)) (c .if2 .taken)))
     refl
 
 put-record-requires : tie.Need-put-record-requires
@@ -96,7 +101,8 @@ returns-4 c =
     let first = tested .before .before .before in
     let a = began first .args in
     answered (a .number) (a .profile) (a .certificate .now) (a .issuer .now) (a .room .now) (Blocks (tested .before .parts-of .result)) _
-    (taken (a .number) (a .profile) (a .certificate .now) (a .issuer .now) (a .room .now) _ (admitted first) (tested .before .before .if1 .left) (rw (← counted (tested .before)) (tested .if2 .left))
+    (taken (a .number) (a .profile) (a .certificate .now) (a .issuer .now) (a .room .now) _ (admitted first)
+    (tested .before .before .if1 .left) (rw (← counted (tested .before)) (tested .if2 .left))
     ∙ ap Blocks (sym (counted (tested .before))))
     (put .put-record .ensures)
 
