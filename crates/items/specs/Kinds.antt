@@ -19,7 +19,9 @@ use Rattle.names.specs.Access.{notHttpBy}
 use Rattle.names.specs.Points.{isRestricted}
 use Rattle.names.specs.declared.access.Method.the-variants.{CaIssuers}
 use Rattle.items.specs.declared.kinds.Kind.{Kind}
-use Rattle.items.specs.declared.kinds.Kind.the-variants.{Attribute, Foreign, OtherCountry, OtherOrganization, OtherState, Crowded, Repeated, Unwanted, OutOfPlace, OtherPurpose, OtherQualifier, NotHost, Underscore, NoHostName, NotHttp, Restricted}
+use Rattle.items.specs.declared.kinds.Kind.the-variants.{Attribute, Foreign, OtherCountry, OtherOrganization, OtherState, Crowded}
+use Rattle.items.specs.declared.kinds.Kind.the-variants.{Repeated, Unwanted, OutOfPlace, OtherPurpose, OtherQualifier}
+use Rattle.items.specs.declared.kinds.Kind.the-variants.{NotHost, Underscore, NoHostName, NotHttp, Restricted}
 
 -- ---- attributes
 
@@ -65,8 +67,9 @@ isNotHttp p s h = isServer p && notHttpBy s CaIssuers h
 
 -- ---- all of them
 
--- The rule of this kind is broken by the item h; mark is what the rule knows of the list as a whole. What a kind of one line says: 112, 115, 117,
--- 119 see attributes; 361 "each later extension with an identifier seen before"; 411 see values; 412 "each name not a dNSName"; 414, 419 see names.
+-- The rule of this kind is broken by the item h; mark is what the rule knows of the list as a whole. Of rules with no definition above: 112, 115,
+-- 117, 119 see attributes; 361 "each later extension with an identifier seen before"; 411 see values; 412 "each name not a dNSName"; 414, 419 see
+-- names.
 abbrev pub breaks : Kind → Profile → ℕ → List ℕ → Head → Bool
 breaks (Attribute arc) p mark s h = hasArc s h arc
 breaks Foreign p mark s h = isForeign p s h

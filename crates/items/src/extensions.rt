@@ -5,7 +5,7 @@ use profiles::Profile;
 ghost use mathlib.Core.Path.{_≡_};
 ghost use Rattle.items.specs.Kinds.{isUnwantedIn, isOutOfPlaceIn};
 
-pub fn is_unwanted(p: Profile, list: usize, s: &[u8], h: Head) -> bool
+pub fn is_unwanted_in(p: Profile, list: usize, s: &[u8], h: Head) -> bool
     ensures { λ r. ⌜ r ≡ isUnwantedIn p list (now (s .entry)) h ⌝ }
 {
     if profiles::is_server(p) {
@@ -17,7 +17,7 @@ pub fn is_unwanted(p: Profile, list: usize, s: &[u8], h: Head) -> bool
     false
 }
 
-pub fn is_out_of_place(p: Profile, list: usize, s: &[u8], h: Head) -> bool
+pub fn is_out_of_place_in(p: Profile, list: usize, s: &[u8], h: Head) -> bool
     ensures { λ r. ⌜ r ≡ isOutOfPlaceIn p list (now (s .entry)) h ⌝ }
 {
     let extension = certificate::extension_of(s, h);

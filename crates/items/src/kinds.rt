@@ -1,9 +1,9 @@
 // What rules say of one item, without a word on walks or reports.
-use crate::extensions::is_out_of_place;
-use crate::extensions::is_unwanted;
+use crate::extensions::is_out_of_place_in;
+use crate::extensions::is_unwanted_in;
 use crate::lists::has_arc;
 use crate::lists::is_crowded;
-use crate::server::has_underscore;
+use crate::server::has_underscore_in;
 use crate::server::is_not_http;
 use crate::server::is_other_purpose;
 use der::Head;
@@ -54,12 +54,12 @@ pub fn broken(kind: Kind, p: Profile, mark: usize, s: &[u8], h: Head) -> bool
         Kind::OtherState => attributes::is_other_state(s, h),
         Kind::Crowded => is_crowded(p, s, h),
         Kind::Repeated => certificate::seen_before(s, mark, h),
-        Kind::Unwanted => is_unwanted(p, mark, s, h),
-        Kind::OutOfPlace => is_out_of_place(p, mark, s, h),
+        Kind::Unwanted => is_unwanted_in(p, mark, s, h),
+        Kind::OutOfPlace => is_out_of_place_in(p, mark, s, h),
         Kind::OtherPurpose => is_other_purpose(p, s, h),
         Kind::OtherQualifier => values::other_qualifier(s, h),
         Kind::NotHost => !names::is_dns_name(h),
-        Kind::Underscore => has_underscore(p, s, h),
+        Kind::Underscore => has_underscore_in(p, s, h),
         Kind::NoHostName => names::no_host(s, h),
         Kind::NotHttp => is_not_http(p, s, h),
         Kind::Restricted => names::restricted(s, h),

@@ -24,7 +24,9 @@ fn each_behind(
     from: usize,
     to: usize,
 ) -> usize
-    ensures { λ r. ⌜ Put (eachOf rule (isBehind (breaks kind p mark (now (s .entry))) place) (childrenOf (now (s .entry)) from to)) n (now (room .entry)) r (now (room .exit)) ⌝ }
+    ensures { λ r. ⌜ Put
+        (eachOf rule (isBehind (breaks kind p mark (now (s .entry))) place) (childrenOf (now (s .entry)) from to))
+        n (now (room .entry)) r (now (room .exit)) ⌝ }
 {
     let mut count = n;
     let mut at = from;
@@ -49,7 +51,9 @@ pub fn each(
     from: usize,
     to: usize,
 ) -> usize
-    ensures { λ r. ⌜ Put (eachOf rule (breaks kind p mark (now (s .entry))) (childrenOf (now (s .entry)) from to)) n (now (room .entry)) r (now (room .exit)) ⌝ }
+    ensures { λ r. ⌜ Put
+        (eachOf rule (breaks kind p mark (now (s .entry))) (childrenOf (now (s .entry)) from to))
+        n (now (room .entry)) r (now (room .exit)) ⌝ }
 {
     each_behind(room, n, rule, kind, p, mark, s, 0, from, to)
 }
@@ -67,7 +71,9 @@ fn each_within_behind(
     from: usize,
     to: usize,
 ) -> usize
-    ensures { λ r. ⌜ Put (eachOf rule (isBehind (breaks kind p mark (now (s .entry))) place) (grandchildren (now (s .entry)) from to)) n (now (room .entry)) r (now (room .exit)) ⌝ }
+    ensures { λ r. ⌜ Put
+        (eachOf rule (isBehind (breaks kind p mark (now (s .entry))) place) (grandchildren (now (s .entry)) from to))
+        n (now (room .entry)) r (now (room .exit)) ⌝ }
 {
     let mut count = n;
     let mut at = from;
@@ -102,7 +108,9 @@ pub fn each_within(
     from: usize,
     to: usize,
 ) -> usize
-    ensures { λ r. ⌜ Put (eachOf rule (breaks kind p mark (now (s .entry))) (grandchildren (now (s .entry)) from to)) n (now (room .entry)) r (now (room .exit)) ⌝ }
+    ensures { λ r. ⌜ Put
+        (eachOf rule (breaks kind p mark (now (s .entry))) (grandchildren (now (s .entry)) from to))
+        n (now (room .entry)) r (now (room .exit)) ⌝ }
 {
     each_within_behind(room, n, rule, kind, p, mark, s, 0, from, to)
 }
@@ -118,7 +126,9 @@ pub fn one_within(
     s: &[u8],
     name: Head,
 ) -> usize
-    ensures { λ r. ⌜ Put (one rule (breaks kind p mark (now (s .entry))) name (grandchildren (now (s .entry)) (name .body) (name .end))) n (now (room .entry)) r (now (room .exit)) ⌝ }
+    ensures { λ r. ⌜ Put
+        (one rule (breaks kind p mark (now (s .entry))) name (grandchildren (now (s .entry)) (name .body) (name .end)))
+        n (now (room .entry)) r (now (room .exit)) ⌝ }
 {
     let found = first_within(kind, p, mark, s, name.body, name.end);
     let count = report::note(room, n, rule, found.end <= found.at, name);

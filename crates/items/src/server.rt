@@ -13,7 +13,7 @@ pub fn is_other_purpose(p: Profile, s: &[u8], h: Head) -> bool
 }
 
 // Rule 413.
-pub fn has_underscore(p: Profile, s: &[u8], h: Head) -> bool
+pub fn has_underscore_in(p: Profile, s: &[u8], h: Head) -> bool
     ensures { λ r. ⌜ r ≡ hasUnderscoreIn p (now (s .entry)) h ⌝ }
 {
     if profiles::is_server(p) {

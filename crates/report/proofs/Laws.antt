@@ -6,3 +6,4 @@ pub mod Members
 pub mod Order
 pub mod Reading
 pub mod First
+pub mod Loops

@@ -36,22 +36,22 @@ differs a b = a && not b || not a && b
 unfoldable pub extensionFrom : List ℕ → Certificate → ℕ → Extension
 extensionFrom s c at = extensionOf s (headOf s at (c .extensions .end))
 
--- the slot has an extension, and the table does not mark it "no" or "other"
-abbrev pub isPresent : Profile → ℕ → ℕ → Bool
-isPresent p at slot = not (eqb at 0) && isJudged (markOf p slot)
+-- the slot holds an extension, which starts at `at`, and the table does not mark the slot "no" or "other"
+abbrev pub holdsJudged : Profile → ℕ → ℕ → Bool
+holdsJudged p at slot = not (eqb at 0) && isJudged (markOf p slot)
 
 -- 320+s "critical where the table has no "crit", or the reverse"; "320+s .. at the Extension"
 unfoldable pub rule320 : Profile → List ℕ → Certificate → List ℕ → ℕ → List Entry
 rule320 p s c starts slot =
     noted (320 + slot)
-    (isPresent p (getD starts slot 0) slot && differs (extensionFrom s c (getD starts slot 0) .critical) (mustBeCritical p slot))
+    (holdsJudged p (getD starts slot 0) slot && differs (extensionFrom s c (getD starts slot 0) .critical) (mustBeCritical p slot))
     (extensionFrom s c (getD starts slot 0) .place)
 
 -- 340+s "value is not exactly one sound element of its RFC ASN.1 .. (at the OCTET STRING ..)"
 unfoldable pub rule340 : Profile → List ℕ → Certificate → List ℕ → List ℕ → ℕ → List Entry
 rule340 p s c starts values slot =
     noted (340 + slot)
-    (isPresent p (getD starts slot 0) slot && eqb (getD values slot 0) 0)
+    (holdsJudged p (getD starts slot 0) slot && eqb (getD values slot 0) 0)
     (extensionFrom s c (getD starts slot 0) .value)
 
 abbrev pub slotFindings : Question → Profile → List ℕ → Certificate → List ℕ → List ℕ → ℕ → List Entry

@@ -20,7 +20,9 @@ pub fn extension_rules(
     starts: &[usize],
     values: &[usize],
 ) -> usize
-    ensures { λ r. ⌜ Put (extensionFindings p (now (s .entry)) c (now (starts .entry)) (now (values .entry))) n (now (room .entry)) r (now (room .exit)) ⌝ }
+    ensures { λ r. ⌜ Put
+        (extensionFindings p (now (s .entry)) c (now (starts .entry)) (now (values .entry)))
+        n (now (room .entry)) r (now (room .exit)) ⌝ }
 {
     let missing = slots::over_slots(room, n, Question::Missing, p, s, c, starts, values);
     let criticality = slots::over_slots(

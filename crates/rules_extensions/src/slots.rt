@@ -7,7 +7,8 @@ use profiles::Profile;
 ghost use mathlib.Core.Path.{_≡_};
 ghost use Prim.Native.Nat.{_≤_};
 ghost use Rattle.report.specs.Putting.{Put};
-ghost use Rattle.rules_extensions.specs.Slots.{listPlace, isMissing, differs, extensionFrom, isPresent, rule300, rule320, rule340, slotFindings, overSlots};
+ghost use Rattle.rules_extensions.specs.Slots.{listPlace, isMissing, differs, extensionFrom, holdsJudged};
+ghost use Rattle.rules_extensions.specs.Slots.{rule300, rule320, rule340, slotFindings, overSlots};
 
 pub enum Question {
     // 300+s
@@ -68,9 +69,9 @@ fn extension_from(s: &[u8], c: Certificate, at: usize) -> Extension
     certificate::extension_of(s, der::head_at(s, at, list.end))
 }
 
-// Whether the slot has an extension that the profile judges.
-fn is_judged(p: Profile, at: usize, slot: usize) -> bool
-    ensures { λ r. ⌜ r ≡ isPresent p at slot ⌝ }
+// Whether the slot holds an extension, and the profile judges those in it.
+fn holds_judged(p: Profile, at: usize, slot: usize) -> bool
+    ensures { λ r. ⌜ r ≡ holdsJudged p at slot ⌝ }
 {
     !(at == 0) & profiles::is_judged(profiles::mark_of(p, slot))
 }
@@ -91,7 +92,7 @@ fn criticality(
     let at = certificate::number_at(starts, slot);
     let extension = extension_from(s, c, at);
     let wanted = profiles::must_be_critical(p, slot);
-    let bad = is_judged(p, at, slot) & differs(extension.critical, wanted);
+    let bad = holds_judged(p, at, slot) & differs(extension.critical, wanted);
     report::note(room, n, 320 + slot, bad, extension.place)
 }
 
@@ -107,12 +108,14 @@ fn value(
     slot: usize,
 ) -> usize
     requires { ⌜ slot ≤ 10 ⌝ }
-    ensures { λ r. ⌜ Put (rule340 p (now (s .entry)) c (now (starts .entry)) (now (values .entry)) slot) n (now (room .entry)) r (now (room .exit)) ⌝ }
+    ensures { λ r. ⌜ Put
+        (rule340 p (now (s .entry)) c (now (starts .entry)) (now (values .entry)) slot)
+        n (now (room .entry)) r (now (room .exit)) ⌝ }
 {
     let at = certificate::number_at(starts, slot);
     let good = certificate::number_at(values, slot);
     let extension = extension_from(s, c, at);
-    let bad = is_judged(p, at, slot) & (good == 0);
+    let bad = holds_judged(p, at, slot) & (good == 0);
     report::note(room, n, 340 + slot, bad, extension.value)
 }
 
@@ -129,7 +132,9 @@ fn of_slot(
     slot: usize,
 ) -> usize
     requires { ⌜ slot ≤ 10 ⌝ }
-    ensures { λ r. ⌜ Put (slotFindings question p (now (s .entry)) c (now (starts .entry)) (now (values .entry)) slot) n (now (room .entry)) r (now (room .exit)) ⌝ }
+    ensures { λ r. ⌜ Put
+        (slotFindings question p (now (s .entry)) c (now (starts .entry)) (now (values .entry)) slot)
+        n (now (room .entry)) r (now (room .exit)) ⌝ }
 {
     match question {
         Question::Missing => missing(room, n, p, c, starts, slot),
@@ -149,7 +154,9 @@ pub fn over_slots(
     starts: &[usize],
     values: &[usize],
 ) -> usize
-    ensures { λ r. ⌜ Put (overSlots (slotFindings question p (now (s .entry)) c (now (starts .entry)) (now (values .entry)))) n (now (room .entry)) r (now (room .exit)) ⌝ }
+    ensures { λ r. ⌜ Put
+        (overSlots (slotFindings question p (now (s .entry)) c (now (starts .entry)) (now (values .entry))))
+        n (now (room .entry)) r (now (room .exit)) ⌝ }
 {
     let mut count = n;
     let mut slot = 1;

@@ -24,7 +24,9 @@ pub fn algorithms_and_name(
     issuer: &[u8],
     name: Head,
 ) -> usize
-    ensures { λ r. ⌜ Put (algorithmsAndName (now (s .entry)) c (octetsOf (now (issuer .entry)) name)) n (now (room .entry)) r (now (room .exit)) ⌝ }
+    ensures { λ r. ⌜ Put
+        (algorithmsAndName (now (s .entry)) c (octetsOf (now (issuer .entry)) name))
+        n (now (room .entry)) r (now (room .exit)) ⌝ }
 {
     let inner = !is_sha256_rsa(s, c.inner);
     let outer = !is_sha256_rsa(s, c.outer);

@@ -20,7 +20,9 @@ pub fn field_rules(
     issuer: &[u8],
     name: Head,
 ) -> usize
-    ensures { λ r. ⌜ Put (fieldFindings p (now (s .entry)) c (octetsOf (now (issuer .entry)) name)) n (now (room .entry)) r (now (room .exit)) ⌝ }
+    ensures { λ r. ⌜ Put
+        (fieldFindings p (now (s .entry)) c (octetsOf (now (issuer .entry)) name))
+        n (now (room .entry)) r (now (room .exit)) ⌝ }
 {
     let first = version::version_and_serial(room, n, p, s, c);
     let second = algorithms::algorithms_and_name(room, first, s, c, issuer, name);

@@ -15,7 +15,9 @@ pub fn identifier_rules(
     issuer: &[u8],
     key: Head,
 ) -> usize
-    ensures { λ r. ⌜ Put (identifierFindings p (now (s .entry)) (now (values .entry)) (keyIdentifierOf (now (issuer .entry)) key)) n (now (room .entry)) r (now (room .exit)) ⌝ }
+    ensures { λ r. ⌜ Put
+        (identifierFindings p (now (s .entry)) (now (values .entry)) (keyIdentifierOf (now (issuer .entry)) key))
+        n (now (room .entry)) r (now (room .exit)) ⌝ }
 {
     let authority = certificate::value_at(s, values, 1);
     let constraints = certificate::value_at(s, values, 2);

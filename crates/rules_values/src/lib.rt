@@ -27,7 +27,9 @@ pub fn value_rules(
     issuer: &[u8],
     key: Head,
 ) -> usize
-    ensures { λ r. ⌜ Put (valueFindings p (now (s .entry)) kind (now (values .entry)) (keyIdentifierOf (now (issuer .entry)) key)) n (now (room .entry)) r (now (room .exit)) ⌝ }
+    ensures { λ r. ⌜ Put
+        (valueFindings p (now (s .entry)) kind (now (values .entry)) (keyIdentifierOf (now (issuer .entry)) key))
+        n (now (room .entry)) r (now (room .exit)) ⌝ }
 {
     let first = identifiers::identifier_rules(room, n, p, s, values, issuer, key);
     let second = usage::usage_rules(room, first, p, s, kind, values);

@@ -21,7 +21,9 @@ fn lacks_forum(p: Profile, s: &[u8], v: Head) -> bool
 
 // Rule 411 over the policies from `from` to `to`.
 fn qualifiers(room: &mut [u8], n: usize, p: Profile, s: &[u8], from: usize, to: usize) -> usize
-    ensures { λ r. ⌜ Put (each 411 (otherQualifier (now (s .entry))) (qualifiersIn (now (s .entry)) from to)) n (now (room .entry)) r (now (room .exit)) ⌝ }
+    ensures { λ r. ⌜ Put
+        (each 411 (otherQualifier (now (s .entry))) (qualifiersIn (now (s .entry)) from to))
+        n (now (room .entry)) r (now (room .exit)) ⌝ }
 {
     let mut count = n;
     let mut at = from;

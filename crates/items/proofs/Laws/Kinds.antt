@@ -25,6 +25,9 @@ over-one s at end true t =
     (sym (some-left s (headOf s at end) (headOf s at end .end) end (ltb (headOf s at end .end) end) refl))
 over-one s at end false t = rw (children-done s at end (ltb-false at end t))
 
-pub crowded-law : (p : Profile) (s : List ℕ) (h first : Head) (server : Bool) → server ≡ isServer p → first ≡ headOf s (h .body) (h .end) → (not server && (ltb (h .body) (h .end) && ltb (first .end) (h .end))) ≡ isCrowded p s h
+pub crowded-law :
+    (p : Profile) (s : List ℕ) (h first : Head) (server : Bool) → server ≡ isServer p → first ≡ headOf s (h .body) (h .end)
+    → (not server && (ltb (h .body) (h .end) && ltb (first .end) (h .end))) ≡ isCrowded p s h
 unfolding isCrowded
-crowded-law p s h first server e f = rw (f, e) (ap (λ (b : Bool). not (isServer p) && b) (over-one s (h .body) (h .end) (ltb (h .body) (h .end)) refl))
+crowded-law p s h first server e f =
+    rw (f, e) (ap (λ (b : Bool). not (isServer p) && b) (over-one s (h .body) (h .end) (ltb (h .body) (h .end)) refl))

@@ -24,7 +24,9 @@ module _ (f : ℕ → List Entry) (slot : ℕ) where
       rw e
 
   module _ {n n₀ : ℕ} {room room₀ : List ℕ} {all : List Entry} where
-    pub slots-turn : {m : ℕ} {last : List ℕ} → slot < 11 → Rest (fromSlot f slot (11 - slot)) n room all n₀ room₀ → Put (f slot) n room m last → Rest (fromSlot f (slot + 1) (11 - (slot + 1))) m last all n₀ room₀
+    pub slots-turn :
+        {m : ℕ} {last : List ℕ} → slot < 11 → Rest (fromSlot f slot (11 - slot)) n room all n₀ room₀ → Put (f slot) n room m last
+        → Rest (fromSlot f (slot + 1) (11 - (slot + 1))) m last all n₀ room₀
     slots-turn l r p = rest-step (rw (opened l) at r) p
 
     pub slots-end : 11 ≤ slot → Rest (fromSlot f slot (11 - slot)) n room all n₀ room₀ → Put all n₀ room₀ n room
@@ -55,7 +57,9 @@ module _ (f : ℕ → List Entry) (e : Entry) where
   of-slot zero slot k l h i = absurd (omega arith)
   of-slot (suc n) slot k l h i = go (of-slot n (slot + 1) k) (leb k slot) refl
     where
-      go : (slot + 1 ≤ k → k < slot + 1 + n → In e (f k) → In e (fromSlot f (slot + 1) n)) → (b : Bool) → leb k slot ≡ b → In e (f slot ++ fromSlot f (slot + 1) n)
+      go :
+          (slot + 1 ≤ k → k < slot + 1 + n → In e (f k) → In e (fromSlot f (slot + 1) n))
+          → (b : Bool) → leb k slot ≡ b → In e (f slot ++ fromSlot f (slot + 1) n)
       go ih true t =
           let a = leb-true k slot t in
           let same : k ≡ slot = omega arith in

@@ -5,21 +5,6 @@ use Rattle.rules_extensions.specs.Rules.{extensionFindings}
 use Rattle.rules_extensions.proofs.extension_rules.Statement.{statement}
 use Rattle.rules_extensions.proofs.extension_rules.Tie as tie
 
-over-slots-requires : tie.Need-over-slots-requires
-over-slots-requires c κs = search needs
-
-over-slots-requires-2 : tie.Need-over-slots-requires-2
-over-slots-requires-2 c κs = search needs
-
-over-slots-requires-3 : tie.Need-over-slots-requires-3
-over-slots-requires-3 c κs = search needs
-
-identifiers-requires : tie.Need-identifiers-requires
-identifiers-requires c κs = search needs
-
-same-length : tie.Need-same-length
-same-length c = search needs
-
 returns : tie.Need-returns
 unfolding extensionFindings
 returns c =
@@ -27,15 +12,9 @@ returns c =
     let third = fourth .before .before .before .before in
     let second = third .before .before .before .before in
     let first = second .before .before .before .before in
-    first .over-slots .ensures ⨾ (second .over-slots2 .ensures ⨾ (third .over-slots3 .ensures ⨾ fourth .identifiers .ensures))
+    first .over-slots .ensures ⨾ second .over-slots2 .ensures ⨾ third .over-slots3 .ensures ⨾ fourth .identifiers .ensures
 
 pub extension-rules-spec : {M : Type 1} → statement M
 extension-rules-spec =
     tie.close
-    (tie.spec
-    over-slots-requires
-    over-slots-requires-2
-    over-slots-requires-3
-    identifiers-requires
-    same-length
-    returns)
+    (tie.spec (λ c κs. tt) (λ c κs. tt) (λ c κs. tt) (λ c κs. tt) (λ c. search needs) returns)

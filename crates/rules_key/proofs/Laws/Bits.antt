@@ -3,7 +3,7 @@
 --     rsa-is          the whole key
 --     rsa-members     what the SEQUENCE of a good key holds
 -- Assumes nothing.
-use mathlib.Core.Path.{_≡_, refl, ap, _∙_}
+use mathlib.Core.Path.{_≡_, refl, _∙_}
 use mathlib.Core.List.{List, [], _∷_}
 use mathlib.Core.Bool.{Bool, true, false, _&&_}
 use Prim.Native.Nat.{ℕ, _≤_, _<_}
@@ -22,7 +22,10 @@ use Rattle.der.proofs.Laws.Children.{children-done, children-next}
 use Rattle.der.specs.declared.walk.Soundness.{Soundness}
 
 -- m and e are the first two elements, and a and b say whether they are positive INTEGERs
-pub two-are : (s : List ℕ) (body end : ℕ) (m e : Head) (a b : Bool) → m ≡ headOf s body end → e ≡ headOf s (m .end) end → a ≡ isPositiveInteger s m → b ≡ isPositiveInteger s e → ((ltb body end && (ltb (m .end) end && eqb (e .end) end)) && (a && b)) ≡ twoPositive s (childrenOf s body end)
+pub two-are :
+    (s : List ℕ) (body end : ℕ) (m e : Head) (a b : Bool) → m ≡ headOf s body end → e ≡ headOf s (m .end) end
+    → a ≡ isPositiveInteger s m → b ≡ isPositiveInteger s e
+    → ((ltb body end && (ltb (m .end) end && eqb (e .end) end)) && (a && b)) ≡ twoPositive s (childrenOf s body end)
 two-are s body end m e a b p q u v = first (ltb body end) refl
   where
     third : (x : Bool) → eqb (e .end) end ≡ x → m .end < end → (x && (a && b)) ≡ twoPositive s (m ∷ e ∷ childrenOf s (e .end) end)
@@ -41,25 +44,45 @@ two-are s body end m e a b p q u v = first (ltb body end) refl
     first false z = rw (children-done s body end (ltb-false body end z))
 
 -- what is read of the BIT STRING: where its bits start, the octet before them, what the walk found, and the elements
-pub rsa-is : (s : List ℕ) (h : Head) (from unused : ℕ) (found : Soundness) (sound : Bool) (whole m e : Head) (a b : Bool) → from ≡ bitsFrom h → unused ≡ octetAt s (h .body) → found ≡ stretchSoundness s from (h .end) → sound ≡ isSound found → whole ≡ headOf s from (h .end) → m ≡ headOf s (whole .body) (whole .end) → e ≡ headOf s (m .end) (whole .end) → a ≡ isPositiveInteger s m → b ≡ isPositiveInteger s e → _≡_ {A = RsaKey} (record { kept = eqb unused 0 && (sound && (eqb (whole .tag) 48 && ((ltb (whole .body) (whole .end) && (ltb (m .end) (whole .end) && eqb (e .end) (whole .end))) && (a && b)))); modulus = m; exponent = e }) (rsaKeyOf s h)
+pub rsa-is :
+    (s : List ℕ) (h : Head) (from unused : ℕ) (found : Soundness) (sound : Bool) (whole m e : Head) (a b : Bool)
+    → from ≡ bitsFrom h → unused ≡ octetAt s (h .body) → found ≡ stretchSoundness s from (h .end) → sound ≡ isSound found
+    → whole ≡ headOf s from (h .end) → m ≡ headOf s (whole .body) (whole .end) → e ≡ headOf s (m .end) (whole .end)
+    → a ≡ isPositiveInteger s m → b ≡ isPositiveInteger s e
+    → _≡_ {A = RsaKey}
+    (record {
+      kept =
+          eqb unused 0
+          && (sound
+          && (eqb (whole .tag) 48 && ((ltb (whole .body) (whole .end) && (ltb (m .end) (whole .end) && eqb (e .end) (whole .end))) && (a && b))));
+      modulus = m;
+      exponent = e;
+    })
+    (rsaKeyOf s h)
 unfolding rsaKeyOf rsaBits
 rsa-is s h from unused found sound whole m e a b fr un fo so wh mo ex pa pb =
     rw (two-are s (whole .body) (whole .end) m e a b mo ex pa pb, so, fo, un, ex, mo, wh, fr)
 
 -- where rule 204 is kept, the SEQUENCE holds the modulus and the exponent, and no more
-pub rsa-members : (s : List ℕ) (h : Head) → rsaBits s h ≡ true → childrenOf s (wholeOf s h .body) (wholeOf s h .end) ≡ modulusOf s h ∷ exponentOf s h ∷ []
+pub rsa-members :
+    (s : List ℕ) (h : Head) → rsaBits s h ≡ true
+    → childrenOf s (wholeOf s h .body) (wholeOf s h .end) ≡ modulusOf s h ∷ exponentOf s h ∷ []
 unfolding rsaBits
 rsa-members s h t =
     let body = wholeOf s h .body in
     let end = wholeOf s h .end in
-    let a = and-r (eqb (octetAt s (h .body)) 0) (isSound (stretchSoundness s (bitsFrom h) (h .end)) && (eqb (wholeOf s h .tag) 48 && twoPositive s (childrenOf s body end))) t in
-    let b = and-r (isSound (stretchSoundness s (bitsFrom h) (h .end))) (eqb (wholeOf s h .tag) 48 && twoPositive s (childrenOf s body end)) a in
-    let c = and-r (eqb (wholeOf s h .tag) 48) (twoPositive s (childrenOf s body end)) b in
-    let two = two-are s body end (modulusOf s h) (exponentOf s h) (isPositiveInteger s (modulusOf s h)) (isPositiveInteger s (exponentOf s h)) refl refl refl refl ∙ c in
-    let fill = and-l (ltb body end && (ltb (modulusOf s h .end) end && eqb (exponentOf s h .end) end)) (isPositiveInteger s (modulusOf s h) && isPositiveInteger s (exponentOf s h)) two in
-    let first = ltb-true body end (and-l (ltb body end) (ltb (modulusOf s h .end) end && eqb (exponentOf s h .end) end) fill) in
-    let rest = and-r (ltb body end) (ltb (modulusOf s h .end) end && eqb (exponentOf s h .end) end) fill in
-    let second = ltb-true (modulusOf s h .end) end (and-l (ltb (modulusOf s h .end) end) (eqb (exponentOf s h .end) end) rest) in
-    let last = eqb-true (exponentOf s h .end) end (and-r (ltb (modulusOf s h .end) end) (eqb (exponentOf s h .end) end) rest) in
-    children-next s body end first
-    ∙ ap (λ (hs : List Head). modulusOf s h ∷ hs) (children-next s (modulusOf s h .end) end second ∙ ap (λ (hs : List Head). exponentOf s h ∷ hs) (children-done s (exponentOf s h .end) end (omega arith)))
+    let m = modulusOf s h in
+    let e = exponentOf s h in
+    let sound = isSound (stretchSoundness s (bitsFrom h) (h .end)) in
+    let sequence = eqb (wholeOf s h .tag) 48 in
+    let two = twoPositive s (childrenOf s body end) in
+    let positive = isPositiveInteger s m && isPositiveInteger s e in
+    let holds = and-r sequence two (and-r sound (sequence && two) (and-r (eqb (octetAt s (h .body)) 0) (sound && (sequence && two)) t)) in
+    let both = two-are s body end m e (isPositiveInteger s m) (isPositiveInteger s e) refl refl refl refl ∙ holds in
+    let fill = and-l (ltb body end && (ltb (m .end) end && eqb (e .end) end)) positive both in
+    let rest = and-r (ltb body end) (ltb (m .end) end && eqb (e .end) end) fill in
+    let first = ltb-true body end (and-l (ltb body end) (ltb (m .end) end && eqb (e .end) end) fill) in
+    let second = ltb-true (m .end) end (and-l (ltb (m .end) end) (eqb (e .end) end) rest) in
+    let last = eqb-true (e .end) end (and-r (ltb (m .end) end) (eqb (e .end) end) rest) in
+    let behind : end ≤ e .end = omega arith in
+    rw (children-next s body end first, children-next s (m .end) end second, children-done s (e .end) end behind)

@@ -2,13 +2,13 @@
 --     subject-ordered     they rise
 --     subject-inside      their places lie where the subject does
 -- Assumes nothing.
-use mathlib.Core.List.{List, _++_}
+use mathlib.Core.List.{List}
 use mathlib.Core.Bool.{Bool, not}
 use Prim.Native.Nat.{ℕ, _≤_, _<_}
 use native.Mathlib.Nat.{le-refl}
 use native.Mathlib.Omega.{arith}
-use Rattle.rules_subject.specs.Attributes.{attributesIn, isA, rule112, rule113, rule114, rule115, rule116, rule117, rule118, rule119, everySubject, organizationFindings, stateFindings}
-use Rattle.rules_subject.specs.CommonName.{firstCommonName, rule120, rule121, nameAndSets}
+use Rattle.rules_subject.specs.Attributes.{attributesIn, isA, everySubject, organizationFindings, stateFindings}
+use Rattle.rules_subject.specs.CommonName.{firstCommonName, nameAndSets}
 use Rattle.rules_subject.specs.Rules.{subjectFindings}
 use Rattle.der.specs.declared.header.Head.{Head}
 use Rattle.profiles.specs.Fields.{isDomain, isOrganization}
@@ -18,7 +18,8 @@ use Rattle.items.specs.Kinds.{isCrowded}
 use Rattle.items.proofs.Laws.Lists.{grand-between, grand-apart}
 use Rattle.report.specs.Forms.{each, one}
 use Rattle.report.specs.Order.{Ordered, Between, Inside}
-use Rattle.report.proofs.Laws.Order.{noted-ordered, each-ordered, one-ordered, join-ordered, only-ordered, noted-inside, each-inside, one-inside, join-inside, only-inside, between-wider, children-apart, children-between}
+use Rattle.report.proofs.Laws.Order.{noted-ordered, each-ordered, one-ordered, join-ordered, only-ordered, noted-inside, each-inside}
+use Rattle.report.proofs.Laws.Order.{one-inside, join-inside, only-inside, between-wider, children-apart, children-between}
 use Rattle.report.proofs.Laws.First.{first-inside}
 
 module _ (p : Profile) (s : List ℕ) (subject : Head) where
@@ -38,10 +39,13 @@ module _ (p : Profile) (s : List ℕ) (subject : Head) where
       (join-ordered (one-attribute 113 114 (omega arith) (isA 3 s))
       (join-ordered (one-attribute 114 115 (omega arith) (isA 6 s)) (each-attribute 115 116 (omega arith) (isOtherCountry s)))))
       (join-ordered
-      (only-ordered (not (isDomain p)) (join-ordered (one-attribute 116 117 (omega arith) (isA 10 s)) (each-attribute 117 118 (omega arith) (isOtherOrganization s))))
+      (only-ordered (not (isDomain p))
+      (join-ordered (one-attribute 116 117 (omega arith) (isA 10 s)) (each-attribute 117 118 (omega arith) (isOtherOrganization s))))
       (join-ordered
-      (only-ordered (isOrganization p) (join-ordered (one-attribute 118 119 (omega arith) (isA 8 s)) (each-attribute 119 120 (omega arith) (isOtherState s))))
-      (join-ordered (noted-ordered 120 121 (omega arith) _ (firstCommonName s subject)) (each-ordered 121 122 (omega arith) (isCrowded p s) (children-apart s (subject .end) (subject .body))))))
+      (only-ordered (isOrganization p)
+      (join-ordered (one-attribute 118 119 (omega arith) (isA 8 s)) (each-attribute 119 120 (omega arith) (isOtherState s))))
+      (join-ordered (noted-ordered 120 121 (omega arith) _ (firstCommonName s subject))
+      (each-ordered 121 122 (omega arith) (isCrowded p s) (children-apart s (subject .end) (subject .body))))))
 
   -- ---- bounds
 
@@ -55,36 +59,18 @@ module _ (p : Profile) (s : List ℕ) (subject : Head) where
     at-one : (rule : ℕ) (isX : Head → Bool) → Inside (one rule isX subject (attributesIn s subject)) limit
     at-one rule isX = one-inside limit rule (subject .body) isX subject l k attributes-between
 
-    every-inside : Inside (everySubject p s subject) limit
-    unfolding everySubject
-    every-inside =
-        join-inside (rule112 p s subject) (rule113 s subject ++ (rule114 s subject ++ rule115 s subject)) (at-each 112 (isForeign p s))
-        (join-inside (rule113 s subject) (rule114 s subject ++ rule115 s subject) (at-one 113 (isA 3 s))
-        (join-inside (rule114 s subject) (rule115 s subject) (at-one 114 (isA 6 s)) (at-each 115 (isOtherCountry s))))
-
-    organization-inside : Inside (organizationFindings p s subject) limit
-    unfolding organizationFindings
-    organization-inside =
-        only-inside (not (isDomain p)) (rule116 s subject ++ rule117 s subject)
-        (join-inside (rule116 s subject) (rule117 s subject) (at-one 116 (isA 10 s)) (at-each 117 (isOtherOrganization s)))
-
-    state-inside : Inside (stateFindings p s subject) limit
-    unfolding stateFindings
-    state-inside =
-        only-inside (isOrganization p) (rule118 s subject ++ rule119 s subject)
-        (join-inside (rule118 s subject) (rule119 s subject) (at-one 118 (isA 8 s)) (at-each 119 (isOtherState s)))
-
-    name-inside : (alternative : Head) → Inside (nameAndSets p s subject alternative) limit
-    unfolding nameAndSets
-    name-inside alternative =
-        let cn = first-inside (isA 3 s) (subject .end) (subject .body) limit (attributesIn s subject) k attributes-between in
-        join-inside (rule120 p s subject alternative) (rule121 p s subject)
-        (noted-inside limit 120 _ (firstCommonName s subject) (cn .0) (cn .1))
-        (each-inside limit 121 (subject .body) (isCrowded p s) (between-wider (le-refl (subject .body)) k (children-between s (subject .end) (subject .body))))
-
     pub subject-inside : (alternative : Head) → Inside (subjectFindings p s subject alternative) limit
-    unfolding subjectFindings
+    unfolding subjectFindings everySubject organizationFindings stateFindings nameAndSets
     subject-inside alternative =
-        join-inside (everySubject p s subject) (organizationFindings p s subject ++ (stateFindings p s subject ++ nameAndSets p s subject alternative)) every-inside
-        (join-inside (organizationFindings p s subject) (stateFindings p s subject ++ nameAndSets p s subject alternative) organization-inside
-        (join-inside (stateFindings p s subject) (nameAndSets p s subject alternative) state-inside (name-inside alternative)))
+        let cn = first-inside (isA 3 s) (subject .end) (subject .body) limit (attributesIn s subject) k attributes-between in
+        let sets = between-wider (le-refl (subject .body)) k (children-between s (subject .end) (subject .body)) in
+        join-inside _ _
+        (join-inside _ _ (at-each 112 (isForeign p s))
+        (join-inside _ _ (at-one 113 (isA 3 s))
+        (join-inside _ _ (at-one 114 (isA 6 s)) (at-each 115 (isOtherCountry s)))))
+        (join-inside _ _
+        (only-inside (not (isDomain p)) _ (join-inside _ _ (at-one 116 (isA 10 s)) (at-each 117 (isOtherOrganization s))))
+        (join-inside _ _
+        (only-inside (isOrganization p) _ (join-inside _ _ (at-one 118 (isA 8 s)) (at-each 119 (isOtherState s))))
+        (join-inside _ _ (noted-inside limit 120 _ (firstCommonName s subject) (cn .0) (cn .1))
+        (each-inside limit 121 (subject .body) (isCrowded p s) sets))))

@@ -5,21 +5,6 @@ use Rattle.rules_subject.specs.Rules.{subjectFindings}
 use Rattle.rules_subject.proofs.subject_rules.Statement.{statement}
 use Rattle.rules_subject.proofs.subject_rules.Tie as tie
 
-every-subject-requires : tie.Need-every-subject-requires
-every-subject-requires c κs = search needs
-
-organization-requires : tie.Need-organization-requires
-organization-requires c κs = search needs
-
-state-requires : tie.Need-state-requires
-state-requires c κs = search needs
-
-name-and-sets-requires : tie.Need-name-and-sets-requires
-name-and-sets-requires c κs = search needs
-
-same-length : tie.Need-same-length
-same-length c = search needs
-
 returns : tie.Need-returns
 unfolding subjectFindings
 returns c =
@@ -27,15 +12,9 @@ returns c =
     let third = fourth .before .before .before .before in
     let second = third .before .before .before .before in
     let first = second .before .before .before .before in
-    first .every-subject .ensures ⨾ (second .organization .ensures ⨾ (third .state .ensures ⨾ fourth .name-and-sets .ensures))
+    first .every-subject .ensures ⨾ second .organization .ensures ⨾ third .state .ensures ⨾ fourth .name-and-sets .ensures
 
 pub subject-rules-spec : {M : Type 1} → statement M
 subject-rules-spec =
     tie.close
-    (tie.spec
-    every-subject-requires
-    organization-requires
-    state-requires
-    name-and-sets-requires
-    same-length
-    returns)
+    (tie.spec (λ c κs. tt) (λ c κs. tt) (λ c κs. tt) (λ c κs. tt) (λ c. search needs) returns)

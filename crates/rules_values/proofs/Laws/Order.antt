@@ -3,7 +3,7 @@
 --     values-inside      their places lie in the certificate's octets, whatever the numbers of the slots are
 -- Assumes nothing.
 use mathlib.Core.Path.{_≡_, refl}
-use mathlib.Core.Bool.{Bool, true, false, cond, not, _&&_, false≢true}
+use mathlib.Core.Bool.{Bool, true, false, cond, not, false≢true}
 use mathlib.Core.List.{List, _++_}
 use Prim.Native.Nat.{ℕ, _-_, _≤_, _<_}
 use native.Mathlib.Nat.{le-refl, le-trans}
@@ -32,7 +32,7 @@ use Rattle.certificate.specs.declared.key.KeyKind.{KeyKind}
 use Rattle.certificate.specs.declared.slots.Value.{Value}
 use Rattle.certificate.proofs.Laws.Inside.{between-head}
 use Rattle.der.specs.Members.{membersIn}
-use Rattle.values.specs.Identifiers.{KeyIdentifier, authorityKey, sameKey, otherAuthority, notEmpty, notTwenty}
+use Rattle.values.specs.Identifiers.{KeyIdentifier, authorityKey, sameKey, otherAuthority, notEmpty}
 use Rattle.values.specs.Usage.{bitAt, usageOf, digitalSignature, unsignedOf, otherBits, otherUsage}
 use Rattle.values.specs.Purposes.{purposeIs, wantedPurpose, noWantedPurpose}
 use Rattle.values.specs.Policies.{policyBelow, policyIs, noneBelow, lacksPolicy, otherQualifier}
@@ -45,7 +45,8 @@ use Rattle.items.specs.Kinds.{isOtherPurpose, hasUnderscoreIn, isNotHttp}
 use Rattle.report.specs.Entries.{entryIf, noted}
 use Rattle.report.specs.Forms.{each}
 use Rattle.report.specs.Order.{Ordered, Inside}
-use Rattle.report.proofs.Laws.Order.{noted-ordered, each-ordered, join-ordered, none-inside, noted-inside, each-inside, join-inside, children-apart, children-between, between-wider}
+use Rattle.report.proofs.Laws.Order.{noted-ordered, each-ordered, join-ordered, none-inside, noted-inside}
+use Rattle.report.proofs.Laws.Order.{each-inside, join-inside, children-apart, children-between, between-wider}
 use Rattle.rules_values.proofs.Laws.Qualifiers.{qualifiers-between, qualifiers-apart}
 use Rattle.der.specs.Elements.{anyOf}
 
@@ -60,17 +61,20 @@ module _ (p : Profile) (s values : List ℕ) where
   unfolding identifierFindings
   identifiers-ordered key =
       join-ordered (noted-ordered 401 402 (omega arith) _ (valueAt s values 1 .holder))
-      (join-ordered (noted-ordered 402 403 (omega arith) _ (valueAt s values 2 .holder)) (noted-ordered 403 404 (omega arith) _ (valueAt s values 3 .holder)))
+      (join-ordered (noted-ordered 402 403 (omega arith) _ (valueAt s values 2 .holder))
+      (noted-ordered 403 404 (omega arith) _ (valueAt s values 3 .holder)))
 
   usage-ordered : (kind : KeyKind) → Ordered 404 407 (usageFindings p s kind values)
   unfolding usageFindings
   usage-ordered kind =
-      join-ordered (noted-ordered 404 405 (omega arith) _ (valueAt s values 4 .holder)) (noted-ordered 405 407 (omega arith) _ (valueAt s values 4 .holder))
+      join-ordered (noted-ordered 404 405 (omega arith) _ (valueAt s values 4 .holder))
+      (noted-ordered 405 407 (omega arith) _ (valueAt s values 4 .holder))
 
   purposes-ordered : Ordered 407 409 (purposeFindings p s values)
   unfolding purposeFindings
   purposes-ordered =
-      join-ordered (noted-ordered 407 408 (omega arith) _ (valueAt s values 5 .holder)) (items-ordered 408 409 (omega arith) _ s (valueAt s values 5 .element))
+      join-ordered (noted-ordered 407 408 (omega arith) _ (valueAt s values 5 .holder))
+      (items-ordered 408 409 (omega arith) _ s (valueAt s values 5 .element))
 
   policies-ordered : Ordered 409 412 (policyFindings p s values)
   unfolding policyFindings
@@ -83,20 +87,25 @@ module _ (p : Profile) (s values : List ℕ) where
   unfolding hostFindings
   hosts-ordered =
       join-ordered (items-ordered 412 413 (omega arith) _ s (valueAt s values 7 .element))
-      (join-ordered (items-ordered 413 414 (omega arith) _ s (valueAt s values 7 .element)) (items-ordered 414 415 (omega arith) _ s (valueAt s values 7 .element)))
+      (join-ordered (items-ordered 413 414 (omega arith) _ s (valueAt s values 7 .element))
+      (items-ordered 414 415 (omega arith) _ s (valueAt s values 7 .element)))
 
   access-ordered : Ordered 415 418 (accessFindings p s values)
   unfolding accessFindings
   access-ordered =
       join-ordered (noted-ordered 415 416 (omega arith) _ (valueAt s values 8 .holder))
-      (join-ordered (noted-ordered 416 417 (omega arith) _ (valueAt s values 8 .holder)) (items-ordered 417 418 (omega arith) _ s (valueAt s values 8 .element)))
+      (join-ordered (noted-ordered 416 417 (omega arith) _ (valueAt s values 8 .holder))
+      (items-ordered 417 418 (omega arith) _ s (valueAt s values 8 .element)))
 
   points-ordered : Ordered 418 420 (pointFindings s values)
   unfolding pointFindings
   points-ordered =
-      join-ordered (noted-ordered 418 419 (omega arith) _ (valueAt s values 9 .holder)) (items-ordered 419 420 (omega arith) _ s (valueAt s values 9 .element))
+      join-ordered (noted-ordered 418 419 (omega arith) _ (valueAt s values 9 .holder))
+      (items-ordered 419 420 (omega arith) _ s (valueAt s values 9 .element))
 
-pub values-ordered : (p : Profile) (s : List ℕ) (kind : KeyKind) (values : List ℕ) (key : KeyIdentifier) → Ordered 401 420 (valueFindings p s kind values key)
+pub values-ordered :
+    (p : Profile) (s : List ℕ) (kind : KeyKind) (values : List ℕ) (key : KeyIdentifier)
+    → Ordered 401 420 (valueFindings p s kind values key)
 unfolding valueFindings
 values-ordered p s kind values key =
     join-ordered (identifiers-ordered p s values key)
@@ -124,14 +133,18 @@ record Lies (s : List ℕ) (v : Value) : Type 0 where
   element : v .element .end ≤ length s
 
 -- no element behind the octets holds a sound one
-nothing-behind : (s : List ℕ) (at : ℕ) → firstIn s (headOf s at (length s)) .sound ≡ true → headOf s at (length s) .at ≤ headOf s at (length s) .end
+nothing-behind :
+    (s : List ℕ) (at : ℕ) → firstIn s (headOf s at (length s)) .sound ≡ true → headOf s at (length s) .at ≤ headOf s at (length s) .end
 nothing-behind s at = go (leb at (length s)) refl
   where
-    go : (b : Bool) → leb at (length s) ≡ b → firstIn s (headOf s at (length s)) .sound ≡ true → headOf s at (length s) .at ≤ headOf s at (length s) .end
+    go :
+        (b : Bool) → leb at (length s) ≡ b
+        → firstIn s (headOf s at (length s)) .sound ≡ true → headOf s at (length s) .at ≤ headOf s at (length s) .end
     go true t = let b = between-head s at (length s) (leb-true at (length s) t) in λ k. le-trans (b .holds) (b .forward)
     go false t =
         let l = leb-false at (length s) t in
-        rw (head-narrow s at (length s) (omega arith), head-narrow s (length s) (length s) (omega arith)) (λ k. absurd (false≢true k))
+        rw (head-narrow s at (length s) (omega arith), head-narrow s (length s) (length s) (omega arith))
+        (λ k. absurd (false≢true k))
 
 value-lies : (s values : List ℕ) (slot : ℕ) → Lies s (valueAt s values slot)
 unfolding valueAt
@@ -202,75 +215,66 @@ module _ (s : List ℕ) (v : Value) (l : Lies s v) (rule : ℕ) where
 
   items-inside : (bad : Head → Bool) → Inside (each rule bad (membersIn s (v .element))) (length s)
   items-inside bad =
-      each-inside (length s) rule (v .element .body) bad (between-wider (le-refl (v .element .body)) (l .element) (children-between s (v .element .end) (v .element .body)))
+      each-inside (length s) rule (v .element .body) bad
+      (between-wider (le-refl (v .element .body)) (l .element) (children-between s (v .element .end) (v .element .body)))
 
   qualifiers-inside : (bad : Head → Bool) → Inside (each rule bad (qualifiersIn s (v .element .body) (v .element .end))) (length s)
   qualifiers-inside bad =
-      each-inside (length s) rule (v .element .body) bad (between-wider (le-refl (v .element .body)) (l .element) (qualifiers-between s (v .element .end) (v .element .body)))
+      each-inside (length s) rule (v .element .body) bad
+      (between-wider (le-refl (v .element .body)) (l .element) (qualifiers-between s (v .element .end) (v .element .body)))
 
 -- the rules of an extension
 module _ (p : Profile) (s : List ℕ) (v : Value) (l : Lies s v) where
   key-inside : (key : KeyIdentifier) → Inside (rule401 s v key) (length s)
-  key-inside key = judged-inside s v l 401 (otherAuthority s (v .element) key) (other-judged s (v .element) key)
+  key-inside key = judged-inside s v l 401 _ (other-judged s (v .element) key)
 
   constraints-inside : Inside (rule402 p v) (length s)
   constraints-inside =
-      judged-inside s v l 402 (isServer p && notEmpty (v .element))
+      judged-inside s v l 402 _
       (λ t. and-l (v .element .sound) (ltb (v .element .body) (v .element .end)) (and-r (isServer p) (notEmpty (v .element)) t))
 
   length-inside : Inside (rule403 v) (length s)
   length-inside =
-      judged-inside s v l 403 (notTwenty (v .element)) (λ t. and-l (v .element .sound) (not (eqb (v .element .end - v .element .body) 20)) t)
+      judged-inside s v l 403 _ (λ t. and-l (v .element .sound) (not (eqb (v .element .end - v .element .body) 20)) t)
 
   usage-inside : (kind : KeyKind) → Inside (rule404 s v ++ rule405 p s kind v) (length s)
   usage-inside kind =
-      join-inside (rule404 s v) (rule405 p s kind v) (judged-inside s v l 404 (unsignedOf s (v .element)) (unsigned-judged s (v .element)))
-      (judged-inside s v l 405 (otherUsage s (v .element) (allowedUsage p kind)) (usage-judged s (v .element) (allowedUsage p kind)))
+      join-inside _ _ (judged-inside s v l 404 _ (unsigned-judged s (v .element)))
+      (judged-inside s v l 405 _ (usage-judged s (v .element) (allowedUsage p kind)))
 
   purposes-inside : Inside (rule407 p s v ++ rule408 p s v) (length s)
   purposes-inside =
-      join-inside (rule407 p s v) (rule408 p s v)
-      (judged-inside s v l 407 (noWantedPurpose s (v .element) (isServer p)) (purpose-judged s (v .element) (isServer p)))
-      (items-inside s v l 408 (isOtherPurpose p s))
+      join-inside _ _ (judged-inside s v l 407 _ (purpose-judged s (v .element) (isServer p))) (items-inside s v l 408 (isOtherPurpose p s))
 
   policies-inside : Inside (rule409 s v ++ (rule410 p s v ++ rule411 s v)) (length s)
   policies-inside =
-      join-inside (rule409 s v) (rule410 p s v ++ rule411 s v) (judged-inside s v l 409 (noneBelow s (v .element)) (below-judged s (v .element)))
-      (join-inside (rule410 p s v) (rule411 s v) (judged-inside s v l 410 (lacksForum p s (v .element)) (forum-judged s (v .element) p)) (qualifiers-inside s v l 411 (otherQualifier s)))
+      join-inside _ _ (judged-inside s v l 409 _ (below-judged s (v .element)))
+      (join-inside _ _ (judged-inside s v l 410 _ (forum-judged s (v .element) p)) (qualifiers-inside s v l 411 (otherQualifier s)))
 
   hosts-inside : Inside (rule412 s v ++ (rule413 p s v ++ rule414 s v)) (length s)
   hosts-inside =
-      join-inside (rule412 s v) (rule413 p s v ++ rule414 s v) (items-inside s v l 412 isNoDnsName)
-      (join-inside (rule413 p s v) (rule414 s v) (items-inside s v l 413 (hasUnderscoreIn p s)) (items-inside s v l 414 (noHost s)))
+      join-inside _ _ (items-inside s v l 412 isNoDnsName)
+      (join-inside _ _ (items-inside s v l 413 (hasUnderscoreIn p s)) (items-inside s v l 414 (noHost s)))
 
   access-inside : Inside (rule415 p s v ++ (rule416 s v ++ rule417 p s v)) (length s)
   access-inside =
-      join-inside (rule415 p s v) (rule416 s v ++ rule417 p s v)
-      (judged-inside s v l 415 (isServer p && lacksUri s (v .element) Ocsp) (λ t. uri-judged s (v .element) Ocsp (and-r (isServer p) (lacksUri s (v .element) Ocsp) t)))
-      (join-inside (rule416 s v) (rule417 p s v) (judged-inside s v l 416 (lacksUri s (v .element) CaIssuers) (uri-judged s (v .element) CaIssuers)) (items-inside s v l 417 (isNotHttp p s)))
+      join-inside _ _
+      (judged-inside s v l 415 _ (λ t. uri-judged s (v .element) Ocsp (and-r (isServer p) (lacksUri s (v .element) Ocsp) t)))
+      (join-inside _ _ (judged-inside s v l 416 _ (uri-judged s (v .element) CaIssuers)) (items-inside s v l 417 (isNotHttp p s)))
 
   points-inside : Inside (rule418 s v ++ rule419 s v) (length s)
-  points-inside =
-      join-inside (rule418 s v) (rule419 s v) (judged-inside s v l 418 (lacksHttp s (v .element)) (http-judged s (v .element))) (items-inside s v l 419 (isRestricted s))
+  points-inside = join-inside _ _ (judged-inside s v l 418 _ (http-judged s (v .element))) (items-inside s v l 419 (isRestricted s))
 
-module _ (p : Profile) (s : List ℕ) (kind : KeyKind) (values : List ℕ) (key : KeyIdentifier) where
-  identifiers-inside : Inside (identifierFindings p s values key) (length s)
-  unfolding identifierFindings
-  identifiers-inside =
-      join-inside (rule401 s (valueAt s values 1) key) (rule402 p (valueAt s values 2) ++ rule403 (valueAt s values 3)) (key-inside p s (valueAt s values 1) (value-lies s values 1) key)
-      (join-inside (rule402 p (valueAt s values 2)) (rule403 (valueAt s values 3)) (constraints-inside p s (valueAt s values 2) (value-lies s values 2)) (length-inside p s (valueAt s values 3) (value-lies s values 3)))
-
-  pub values-inside : Inside (valueFindings p s kind values key) (length s)
-  unfolding valueFindings usageFindings purposeFindings policyFindings hostFindings accessFindings pointFindings
-  values-inside =
-      let sixth = accessFindings p s values ++ pointFindings s values in
-      let fifth = hostFindings p s values ++ sixth in
-      let fourth = policyFindings p s values ++ fifth in
-      let third = purposeFindings p s values ++ fourth in
-      let second = usageFindings p s kind values ++ third in
-      join-inside (identifierFindings p s values key) second identifiers-inside
-      (join-inside (usageFindings p s kind values) third (usage-inside p s (valueAt s values 4) (value-lies s values 4) kind)
-      (join-inside (purposeFindings p s values) fourth (purposes-inside p s (valueAt s values 5) (value-lies s values 5))
-      (join-inside (policyFindings p s values) fifth (policies-inside p s (valueAt s values 6) (value-lies s values 6))
-      (join-inside (hostFindings p s values) sixth (hosts-inside p s (valueAt s values 7) (value-lies s values 7))
-      (join-inside (accessFindings p s values) (pointFindings s values) (access-inside p s (valueAt s values 8) (value-lies s values 8)) (points-inside p s (valueAt s values 9) (value-lies s values 9)))))))
+pub values-inside :
+    (p : Profile) (s : List ℕ) (kind : KeyKind) (values : List ℕ) (key : KeyIdentifier)
+    → Inside (valueFindings p s kind values key) (length s)
+unfolding valueFindings identifierFindings usageFindings purposeFindings policyFindings hostFindings accessFindings pointFindings
+values-inside p s kind values key =
+    join-inside _ _
+    (join-inside _ _ (key-inside p s (valueAt s values 1) (value-lies s values 1) key)
+    (join-inside _ _ (constraints-inside p s (valueAt s values 2) (value-lies s values 2)) (length-inside p s (valueAt s values 3) (value-lies s values 3))))
+    (join-inside _ _ (usage-inside p s (valueAt s values 4) (value-lies s values 4) kind)
+    (join-inside _ _ (purposes-inside p s (valueAt s values 5) (value-lies s values 5))
+    (join-inside _ _ (policies-inside p s (valueAt s values 6) (value-lies s values 6))
+    (join-inside _ _ (hosts-inside p s (valueAt s values 7) (value-lies s values 7))
+    (join-inside _ _ (access-inside p s (valueAt s values 8) (value-lies s values 8)) (points-inside p s (valueAt s values 9) (value-lies s values 9)))))))

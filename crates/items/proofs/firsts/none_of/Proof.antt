@@ -1,6 +1,5 @@
--- `items::none_of` meets its contract. Assumes nothing.
+-- `items::firsts::none_of` meets its contract. Assumes nothing.
 use mathlib.Core.Path.{ap, _∙_}
-use borrow.Author.Needs.{needs}
 use Rattle.items.specs.Kinds.{breaks}
 use Rattle.der.specs.declared.header.Head.{Head}
 use Rattle.report.specs.Forms.{isEmpty}
@@ -8,9 +7,6 @@ use Rattle.report.proofs.Laws.First.{none-by-first}
 use Rattle.report.proofs.Laws.Order.{children-apart}
 use Rattle.items.proofs.firsts.none_of.Statement.{statement}
 use Rattle.items.proofs.firsts.none_of.Tie as tie
-
-first-requires : tie.Need-first-requires
-first-requires c κs = search needs
 
 returns : tie.Need-returns
 returns c =
@@ -20,4 +16,4 @@ returns c =
     ∙ none-by-first (breaks (a .kind) (a .p) (a .mark) (a .s .now)) (a .to) (children-apart (a .s .now) (a .to) (a .from))
 
 pub none-of-spec : {M : Type 1} → statement M
-none-of-spec = tie.close (tie.spec first-requires returns)
+none-of-spec = tie.close (tie.spec (λ c κs. tt) returns)

@@ -5,26 +5,15 @@ use Rattle.rules_extensions.specs.Identifiers.{identifierFindings}
 use Rattle.rules_extensions.proofs.identifiers.identifiers.Statement.{statement}
 use Rattle.rules_extensions.proofs.identifiers.identifiers.Tie as tie
 
-each-requires : tie.Need-each-requires
-each-requires c κs = search needs
-
-each-requires-2 : tie.Need-each-requires-2
-each-requires-2 c κs = search needs
-
-each-requires-3 : tie.Need-each-requires-3
-each-requires-3 c κs = search needs
-
-same-length : tie.Need-same-length
-same-length c = search needs
-
 returns : tie.Need-returns
 unfolding identifierFindings
 returns c =
     let third = c .before .before in
     let second = third .before .before .before .before in
     let first = second .before .before .before .before in
-    first .each .ensures ⨾ (second .each2 .ensures ⨾ third .each3 .ensures)
+    first .each .ensures ⨾ second .each2 .ensures ⨾ third .each3 .ensures
 
 pub identifiers-spec : {M : Type 1} → statement M
 identifiers-spec =
-    tie.close (tie.spec each-requires each-requires-2 each-requires-3 same-length returns)
+    tie.close
+    (tie.spec (λ c κs. tt) (λ c κs. tt) (λ c κs. tt) (λ c. search needs) returns)

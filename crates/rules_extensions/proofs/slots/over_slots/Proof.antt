@@ -11,22 +11,16 @@ use Rattle.rules_extensions.proofs.slots.over_slots.Tie as tie
 
 abbrev Inv-loop : tie.InvT-loop
 Inv-loop room₀ n question p s c starts values count₀ slot₀ room count slot =
-    (slot ≤ 11) × (length room ≡ length room₀) × Rest (fromSlot (slotFindings question p s c starts values) slot (11 - slot)) count room (overSlots (slotFindings question p s c starts values)) n room₀
+    (slot ≤ 11)
+    × (length room ≡ length room₀)
+    × Rest (fromSlot (slotFindings question p s c starts values) slot (11 - slot)) count room
+    (overSlots (slotFindings question p s c starts values)) n room₀
 
 abbrev μ-loop : tie.MeasureT-loop
 μ-loop room₀ n question p s c starts values count₀ slot₀ room count slot = 11 - slot
 
 loop-holds : tie.Need-loop-holds Inv-loop μ-loop
 loop-holds c = (search needs, refl, rest-start _ _ _)
-
-of-slot-requires : tie.Need-of-slot-requires Inv-loop μ-loop
-of-slot-requires c κs = search needs
-
-add-slot : tie.Need-add-slot Inv-loop μ-loop
-add-slot c = search needs
-
-loop-less : tie.Need-loop-less Inv-loop μ-loop
-loop-less c = search needs
 
 loop-again : tie.Need-loop-again Inv-loop μ-loop
 loop-again c =
@@ -37,22 +31,11 @@ loop-again c =
       slots-turn _ (l .loop .slot) (search needs) (l .loop .inv .2) (turn .of-slot .ensures),
     )
 
-same-length : tie.Need-same-length Inv-loop μ-loop
-same-length c = c .before .loop .inv .1
-
 returns : tie.Need-returns Inv-loop μ-loop
 returns c = slots-end _ _ (c .loop-test .left) (c .before .loop .inv .2)
 
 pub over-slots-spec : {M : Type 1} → statement M
 over-slots-spec =
     tie.close
-    (tie.spec
-    Inv-loop
-    μ-loop
-    loop-holds
-    of-slot-requires
-    add-slot
-    loop-less
-    loop-again
-    same-length
-    returns)
+    (tie.spec Inv-loop μ-loop loop-holds (λ c κs. search needs) (λ c. search needs) (λ c. search needs) loop-again
+    (λ c. c .before .loop .inv .1) returns)

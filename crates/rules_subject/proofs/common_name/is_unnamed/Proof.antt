@@ -1,20 +1,7 @@
 -- `rules_subject::common_name::is_unnamed` meets its contract. Assumes nothing.
-use borrow.Author.Needs.{needs}
 use Rattle.rules_subject.specs.CommonName.{isUnnamed}
 use Rattle.rules_subject.proofs.common_name.is_unnamed.Statement.{statement}
 use Rattle.rules_subject.proofs.common_name.is_unnamed.Tie as tie
-
-is-server-requires : tie.Need-is-server-requires
-is-server-requires c κs = search needs
-
-value-of-requires : tie.Need-value-of-requires
-value-of-requires c κs = search needs
-
-minus-requires : tie.Need-minus-requires
-minus-requires c κs = search needs
-
-some-same-requires : tie.Need-some-same-requires
-some-same-requires c κs = search needs
 
 returns : tie.Need-returns
 unfolding isUnnamed
@@ -30,10 +17,4 @@ returns-2 c = rw (← c .before .before .before .is-server .ensures, c .if1 .lef
 pub is-unnamed-spec : {M : Type 1} → statement M
 is-unnamed-spec =
     tie.close
-    (tie.spec
-    is-server-requires
-    value-of-requires
-    minus-requires
-    some-same-requires
-    returns
-    returns-2)
+    (tie.spec (λ c κs. tt) (λ c κs. tt) (λ c κs. tt) (λ c κs. tt) returns returns-2)

@@ -6,18 +6,6 @@ use Rattle.rules_subject.specs.Attributes.{stateFindings}
 use Rattle.rules_subject.proofs.subject.state.Statement.{statement}
 use Rattle.rules_subject.proofs.subject.state.Tie as tie
 
-is-organization-requires : tie.Need-is-organization-requires
-is-organization-requires c κs = search needs
-
-one-within-requires : tie.Need-one-within-requires
-one-within-requires c κs = search needs
-
-each-within-requires : tie.Need-each-within-requires
-each-within-requires c κs = search needs
-
-same-length : tie.Need-same-length
-same-length c = search needs
-
 returns : tie.Need-returns
 unfolding stateFindings
 returns c =
@@ -33,10 +21,4 @@ returns-2 c = put-unjudged _ _ _ _ (sym (c .before .is-organization .ensures) �
 pub state-spec : {M : Type 1} → statement M
 state-spec =
     tie.close
-    (tie.spec
-    is-organization-requires
-    one-within-requires
-    each-within-requires
-    same-length
-    returns
-    returns-2)
+    (tie.spec (λ c κs. tt) (λ c κs. tt) (λ c κs. tt) (λ c. search needs) returns returns-2)

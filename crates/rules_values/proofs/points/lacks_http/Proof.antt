@@ -1,13 +1,9 @@
 -- `rules_values::points::lacks_http` meets its contract. Assumes nothing.
-use borrow.Author.Needs.{needs}
 use Rattle.rules_values.proofs.points.lacks_http.Statement.{statement}
 use Rattle.rules_values.proofs.points.lacks_http.Tie as tie
-
-some-http-point-requires : tie.Need-some-http-point-requires
-some-http-point-requires c κs = search needs
 
 returns : tie.Need-returns
 returns c = rw (c .before .some-http-point .ensures)
 
 pub lacks-http-spec : {M : Type 1} → statement M
-lacks-http-spec = tie.close (tie.spec some-http-point-requires returns)
+lacks-http-spec = tie.close (tie.spec (λ c κs. tt) returns)
