@@ -14,7 +14,6 @@ use Rattle.der.proofs.Laws.Header.{head-body}
 use Rattle.certificate.specs.Inside.{Between as Lies}
 use Rattle.certificate.proofs.Laws.Inside.{between-head, between-after}
 use Rattle.values.specs.Policies.{qualifiersOf}
-use Rattle.values.proofs.Laws.Items.{second-law}
 use Rattle.items.proofs.Laws.Lists.{members-joined, parts-between, parts-apart}
 use Rattle.report.specs.Forms.{each, joined}
 use Rattle.report.specs.Order.{Apart, Between}
@@ -32,8 +31,7 @@ qualifiers-joined rule bad s at end =
 -- the second member of an element, or what stands for it, lies in the element
 second-lies : (s : List ℕ) (h : Head) → h .body ≤ h .end → Lies (h .body) (h .end) (qualifiersOf s h)
 second-lies s h l =
-    rw (← second-law s (h .body) (h .end) (headOf s (h .body) (h .end)) refl)
-    (between-after s (h .body) (h .end) (headOf s (h .body) (h .end)) (between-head s (h .body) (h .end) l))
+    between-after s (h .body) (h .end) (headOf s (h .body) (h .end)) (between-head s (h .body) (h .end) l)
 
 module _ (s : List ℕ) (end : ℕ) where
   list-lies :
