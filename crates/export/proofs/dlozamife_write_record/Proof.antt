@@ -6,15 +6,6 @@ use Rattle.writer.proofs.Laws.Answers.{refused-nowhere}
 use Rattle.export.proofs.dlozamife_write_record.Statement.{statement}
 use Rattle.export.proofs.dlozamife_write_record.Tie as tie
 
-write-record-requires : tie.Need-write-record-requires
-write-record-requires c κs = search needs
-
-enum-known-answer : tie.Need-enum-known-answer
-enum-known-answer c = search needs
-
-enum-known-answer-2 : tie.Need-enum-known-answer-2
-enum-known-answer-2 c = search needs
-
 packed-requires : tie.Need-packed-requires
 packed-requires c κs =
     let told = c .before in
@@ -26,17 +17,11 @@ packed-requires c κs =
           (sym (call .write-record .ensures .told) ∙ told .answer2 .given .1),
     )
 
-same-length : tie.Need-same-length
-same-length c = search needs
-
 returns : tie.Need-returns
 returns c =
     let told = c .before in
     let call = told .before .before .before .before in
     (rw (← call .write-record .ensures .told, told .answer .given .1), call .write-record .ensures .bytes)
-
-same-length-2 : tie.Need-same-length-2
-same-length-2 c = search needs
 
 returns-2 : tie.Need-returns-2
 returns-2 c =
@@ -48,11 +33,11 @@ pub dlozamife-write-record-spec : {M : Type 1} → statement M
 dlozamife-write-record-spec =
     tie.close
     (tie.spec
-    write-record-requires
-    enum-known-answer
-    enum-known-answer-2
+    (λ c κs. tt)
+    (λ c. search needs)
+    (λ c. search needs)
     packed-requires
-    same-length
+    (λ c. search needs)
     returns
-    same-length-2
+    (λ c. search needs)
     returns-2)

@@ -1,7 +1,6 @@
 -- `export::packed` meets its contract. Assumes nothing.
 use Prim.Native.Nat.{_≤_, _<_}
 use native.Mathlib.Omega.{arith}
-use borrow.Author.Needs.{needs}
 use Rattle.export.proofs.Laws.Packing.{number-small, side-small, packed-by}
 use Rattle.export.proofs.packed.Statement.{statement}
 use Rattle.export.proofs.packed.Tie as tie
@@ -14,15 +13,6 @@ bounds c =
           (side-small (start .args .r)),
       rw (c .place-of .ensures) (start .pre),
     )
-
-number-of-requires : tie.Need-number-of-requires
-number-of-requires c κs = search needs
-
-side-of-requires : tie.Need-side-of-requires
-side-of-requires c κs = search needs
-
-place-of-requires : tie.Need-place-of-requires
-place-of-requires c κs = search needs
 
 mul-result : tie.Need-mul-result
 mul-result c = omega (arith, bounds c)
@@ -46,9 +36,9 @@ pub packed-spec : {M : Type 1} → statement M
 packed-spec =
     tie.close
     (tie.spec
-    number-of-requires
-    side-of-requires
-    place-of-requires
+    (λ c κs. tt)
+    (λ c κs. tt)
+    (λ c κs. tt)
     mul-result
     add-result
     mul-result-2

@@ -3,7 +3,6 @@ use mathlib.Core.Path.{_≡_, refl, sym, _∙_}
 use Prim.Native.Nat.{_-_, _<_}
 use native.Mathlib.Omega.{arith}
 use lib.ListN.{length}
-use borrow.Author.Needs.{needs}
 use Rattle.asn.specs.Choosing.{lacking}
 use Rattle.asn.specs.Table.{slotsAt}
 use Rattle.asn.proofs.Laws.Steps.{in-slots, nothing-lacks, one-lacks, lacks-next}
@@ -18,9 +17,6 @@ abbrev μ-loop : tie.MeasureT-loop
 
 loop-holds : tie.Need-loop-holds Inv-loop μ-loop
 loop-holds c = refl
-
-row-at-requires : tie.Need-row-at-requires Inv-loop μ-loop
-row-at-requires c κs = search needs
 
 -- what was read of the table is there where it is no end
 in-table : (e : tie.Else1 Inv-loop μ-loop) → e .before .before .loop .j < length (e .before .before .before .before .args .slots .now)
@@ -64,7 +60,7 @@ end-before-spec =
     Inv-loop
     μ-loop
     loop-holds
-    row-at-requires
+    (λ c κs. tt)
     returns
     returns-2
     add-j

@@ -3,7 +3,6 @@ use mathlib.Core.Path.{_≡_, refl, sym, _∙_}
 use Prim.Native.Nat.{_-_, _<_}
 use native.Mathlib.Omega.{arith}
 use lib.ListN.{length}
-use borrow.Author.Needs.{needs}
 use Rattle.asn.specs.Choosing.{alternativeFor}
 use Rattle.asn.specs.Table.{formAt}
 use Rattle.asn.proofs.Laws.Steps.{taken-here, taken-later, in-rows}
@@ -18,12 +17,6 @@ abbrev μ-loop : tie.MeasureT-loop
 
 loop-holds : tie.Need-loop-holds Inv-loop μ-loop
 loop-holds c = refl
-
-row-at-requires : tie.Need-row-at-requires Inv-loop μ-loop
-row-at-requires c κs = search needs
-
-takes-tag-requires : tie.Need-takes-tag-requires Inv-loop μ-loop
-takes-tag-requires c κs = search needs
 
 -- what was read of the table is there where it takes less than any tag
 in-table : (e : tie.Else1 Inv-loop μ-loop) → e .before .before .before .loop .m < length (e .before .before .before .before .before .args .rows .now)
@@ -65,8 +58,8 @@ find-alternative-spec =
     Inv-loop
     μ-loop
     loop-holds
-    row-at-requires
-    takes-tag-requires
+    (λ c κs. tt)
+    (λ c κs. tt)
     returns
     add-m
     loop-less

@@ -3,7 +3,6 @@ use mathlib.Core.Path.{_≡_, refl, sym, _∙_}
 use Prim.Native.Nat.{_-_, _<_}
 use native.Mathlib.Omega.{arith}
 use lib.ListN.{length}
-use borrow.Author.Needs.{needs}
 use Rattle.asn.specs.Choosing.{fieldFor}
 use Rattle.asn.specs.Table.{slotsAt}
 use Rattle.asn.proofs.Laws.Steps.{no-field, field-found, field-later, in-slots}
@@ -18,9 +17,6 @@ abbrev μ-loop : tie.MeasureT-loop
 
 loop-holds : tie.Need-loop-holds Inv-loop μ-loop
 loop-holds c = refl
-
-row-at-requires : tie.Need-row-at-requires Inv-loop μ-loop
-row-at-requires c κs = search needs
 
 returns : tie.Need-returns Inv-loop μ-loop
 returns c =
@@ -75,7 +71,7 @@ find-field-spec =
     Inv-loop
     μ-loop
     loop-holds
-    row-at-requires
+    (λ c κs. tt)
     returns
     find-alternative-requires
     row-after-requires

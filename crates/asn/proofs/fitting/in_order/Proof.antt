@@ -2,7 +2,6 @@
 use mathlib.Core.Path.{_∙_}
 use Prim.Native.Nat.{_/_, _%_}
 use lib.Dec.{eqb}
-use borrow.Author.Needs.{needs}
 use Rattle.asn.proofs.Laws.Steps.{judged-before, judged-now}
 use Rattle.asn.proofs.fitting.in_order.Statement.{statement}
 use Rattle.asn.proofs.fitting.in_order.Tie as tie
@@ -10,13 +9,10 @@ use Rattle.asn.proofs.fitting.in_order.Tie as tie
 returns : tie.Need-returns
 returns c = let a = c .before .before .before .args in judged-before (eqb (a .row / 128 % 2) 0) (eqb (a .h .tag) 49) _ (c .if1 .taken)
 
-ascending-requires : tie.Need-ascending-requires
-ascending-requires c κs = search needs
-
 returns-2 : tie.Need-returns-2
 returns-2 c =
     let a = c .before .before .before .before .args in
     c .ascending .ensures ∙ judged-now (eqb (a .row / 128 % 2) 0) (eqb (a .h .tag) 49) _ (c .before .if1 .left)
 
 pub in-order-spec : {M : Type 1} → statement M
-in-order-spec = tie.close (tie.spec returns ascending-requires returns-2)
+in-order-spec = tie.close (tie.spec returns (λ c κs. tt) returns-2)

@@ -1,5 +1,4 @@
 -- `asn::fitting::may_stand` meets its contract. Assumes nothing.
-use borrow.Author.Needs.{needs}
 use borrow.Author.Tests.{eq-eqb}
 use Rattle.asn.proofs.Laws.Steps.{stands-by-test, stands-in-order}
 use Rattle.asn.proofs.fitting.may_stand.Statement.{statement}
@@ -8,12 +7,6 @@ use Rattle.asn.proofs.fitting.may_stand.Tie as tie
 returns : tie.Need-returns
 returns c = rw (eq-eqb _ _ (c .if1 .taken))
 
-minus-requires : tie.Need-minus-requires
-minus-requires c κs = search needs
-
-passes-test-requires : tie.Need-passes-test-requires
-passes-test-requires c κs = search needs
-
 returns-2 : tie.Need-returns-2
 returns-2 c =
     let m = c .before in
@@ -21,9 +14,6 @@ returns-2 c =
     let a = i .before .before .args in
     stands-by-test (a .s .now) (a .h) (a .row) (i .if1 .left) (c .passes-test .result) (m .before .if2 .taken) (m .minus .result) (m .minus .ensures)
     (c .passes-test .ensures)
-
-in-order-requires : tie.Need-in-order-requires
-in-order-requires c κs = search needs
 
 returns-3 : tie.Need-returns-3
 returns-3 c =
@@ -34,4 +24,4 @@ returns-3 c =
 pub may-stand-spec : {M : Type 1} → statement M
 may-stand-spec =
     tie.close
-    (tie.spec returns minus-requires passes-test-requires returns-2 in-order-requires returns-3)
+    (tie.spec returns (λ c κs. tt) (λ c κs. tt) returns-2 (λ c κs. tt) returns-3)

@@ -10,18 +10,6 @@ use Rattle.asn.proofs.Laws.Roots.{root-row}
 use Rattle.asn.proofs.fitting.only_element.Statement.{statement}
 use Rattle.asn.proofs.fitting.only_element.Tie as tie
 
-slice-aggregate-row-at : tie.Need-slice-aggregate-row-at
-slice-aggregate-row-at c = search needs
-
-row-at-requires : tie.Need-row-at-requires
-row-at-requires c κs = search needs
-
-slice-aggregate-walk : tie.Need-slice-aggregate-walk
-slice-aggregate-walk c = search needs
-
-slice-aggregate-walk-2 : tie.Need-slice-aggregate-walk-2
-slice-aggregate-walk-2 c = search needs
-
 walk-requires : tie.Need-walk-requires
 unfolding rows slots
 walk-requires c κs = tables-right
@@ -39,9 +27,9 @@ pub only-element-spec : {M : Type 1} → statement M
 only-element-spec =
     tie.close
     (tie.spec
-    slice-aggregate-row-at
-    row-at-requires
-    slice-aggregate-walk
-    slice-aggregate-walk-2
+    (λ c. search needs)
+    (λ c κs. tt)
+    (λ c. search needs)
+    (λ c. search needs)
     walk-requires
     returns)

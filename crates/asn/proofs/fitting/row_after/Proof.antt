@@ -4,9 +4,6 @@ use borrow.Author.Tests.{lt-ltb, le-ltb}
 use Rattle.asn.proofs.fitting.row_after.Statement.{statement}
 use Rattle.asn.proofs.fitting.row_after.Tie as tie
 
-add-result : tie.Need-add-result
-add-result c = search needs
-
 returns : tie.Need-returns
 returns c = rw (lt-ltb _ _ (c .if1 .taken))
 
@@ -14,4 +11,4 @@ returns-2 : tie.Need-returns-2
 returns-2 c = rw (le-ltb _ _ (c .if1 .left))
 
 pub row-after-spec : {M : Type 1} → statement M
-row-after-spec = tie.close (tie.spec add-result returns returns-2)
+row-after-spec = tie.close (tie.spec (λ c. search needs) returns returns-2)

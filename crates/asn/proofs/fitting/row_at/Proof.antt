@@ -6,15 +6,6 @@ use borrow.Author.Needs.{needs}
 use Rattle.asn.proofs.fitting.row_at.Statement.{statement}
 use Rattle.asn.proofs.fitting.row_at.Tie as tie
 
-mul-wide16 : tie.Need-mul-wide16
-mul-wide16 c = search needs
-
-shared-slice-read-wide16 : tie.Need-shared-slice-read-wide16
-shared-slice-read-wide16 c = search needs
-
-wide16-requires : tie.Need-wide16-requires
-wide16-requires c κs = search needs
-
 returns : tie.Need-returns
 returns c = (c .wide16 .ensures, omega (arith, c .wide16 .ensures, c .before .shared-slice-known2 .given (c .before .before .before .before .args .n)))
 
@@ -23,4 +14,4 @@ returns-2 c = (sym (List·getD-eq-default (c .before .before .args .table .now) 
 
 pub row-at-spec : {M : Type 1} → statement M
 row-at-spec =
-    tie.close (tie.spec mul-wide16 shared-slice-read-wide16 wide16-requires returns returns-2)
+    tie.close (tie.spec (λ c. search needs) (λ c. search needs) (λ c κs. tt) returns returns-2)

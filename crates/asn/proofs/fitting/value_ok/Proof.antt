@@ -1,20 +1,7 @@
 -- `asn::value_ok` meets its contract. Assumes nothing.
-use borrow.Author.Needs.{needs}
 use Rattle.asn.proofs.Laws.Answers.{value-some, value-unsound}
 use Rattle.asn.proofs.fitting.value_ok.Statement.{statement}
 use Rattle.asn.proofs.fitting.value_ok.Tie as tie
-
-check-stretch-requires : tie.Need-check-stretch-requires
-check-stretch-requires c κs = search needs
-
-is-sound-requires : tie.Need-is-sound-requires
-is-sound-requires c κs = search needs
-
-only-element-requires : tie.Need-only-element-requires
-only-element-requires c κs = search needs
-
-is-fits-requires : tie.Need-is-fits-requires
-is-fits-requires c κs = search needs
 
 returns : tie.Need-returns
 returns c =
@@ -37,9 +24,9 @@ pub value-ok-spec : {M : Type 1} → statement M
 value-ok-spec =
     tie.close
     (tie.spec
-    check-stretch-requires
-    is-sound-requires
-    only-element-requires
-    is-fits-requires
+    (λ c κs. tt)
+    (λ c κs. tt)
+    (λ c κs. tt)
+    (λ c κs. tt)
     returns
     returns-2)

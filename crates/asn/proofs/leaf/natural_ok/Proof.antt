@@ -1,14 +1,7 @@
 -- `asn::leaf::natural_ok` meets its contract. Assumes nothing.
-use borrow.Author.Needs.{needs}
 use Rattle.asn.proofs.Laws.Leaf.{natural-law}
 use Rattle.asn.proofs.leaf.natural_ok.Statement.{statement}
 use Rattle.asn.proofs.leaf.natural_ok.Tie as tie
-
-octet-requires : tie.Need-octet-requires
-octet-requires c κs = search needs
-
-primitive-ok-requires : tie.Need-primitive-ok-requires
-primitive-ok-requires c κs = search needs
 
 returns : tie.Need-returns
 returns c =
@@ -17,4 +10,4 @@ returns c =
     natural-law (a .s .now) (a .body) (a .n) (o .octet .result) (c .primitive-ok .result) (o .octet .ensures) (c .primitive-ok .ensures)
 
 pub natural-ok-spec : {M : Type 1} → statement M
-natural-ok-spec = tie.close (tie.spec octet-requires primitive-ok-requires returns)
+natural-ok-spec = tie.close (tie.spec (λ c κs. tt) (λ c κs. tt) returns)

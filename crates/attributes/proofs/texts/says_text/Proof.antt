@@ -1,13 +1,6 @@
 -- `attributes::texts::says_text` meets its contract. Assumes nothing.
-use borrow.Author.Needs.{needs}
 use Rattle.attributes.proofs.texts.says_text.Statement.{statement}
 use Rattle.attributes.proofs.texts.says_text.Tie as tie
-
-value-of-requires : tie.Need-value-of-requires
-value-of-requires c κs = search needs
-
-contents-are-requires : tie.Need-contents-are-requires
-contents-are-requires c κs = search needs
 
 returns : tie.Need-returns
 returns c = rw (← c .before .before .value-of .ensures, c .before .if1 .taken) (c .contents-are .ensures)
@@ -17,4 +10,4 @@ returns-2 c = rw (← c .before .value-of .ensures, c .if1 .left)
 
 pub says-text-spec : {M : Type 1} → statement M
 says-text-spec =
-    tie.close (tie.spec value-of-requires contents-are-requires returns returns-2)
+    tie.close (tie.spec (λ c κs. tt) (λ c κs. tt) returns returns-2)

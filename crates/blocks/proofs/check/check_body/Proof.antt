@@ -10,47 +10,11 @@ use Rattle.blocks.proofs.Laws.Weigh.{weigh-short, weigh-long}
 use Rattle.blocks.proofs.check.check_body.Statement.{statement}
 use Rattle.blocks.proofs.check.check_body.Tie as tie
 
-low-sum-requires : tie.Need-low-sum-requires
-low-sum-requires c κs = search needs
-
-add-result : tie.Need-add-result
-add-result c = search needs
-
-cast-result : tie.Need-cast-result
-cast-result c = search needs
-
 returns : tie.Need-returns
 unfolding checkOf
 returns c =
     let body = c .before .before .before .args .body .now in
     (ap (λ (n : ℕ). (1 + n) % 65521) (c .before .low-sum .ensures .0 ∙ weigh-short body (omega arith)), omega arith)
-
-sub-plain-sum : tie.Need-sub-plain-sum
-sub-plain-sum c = search needs
-
-part-plain-sum-start : tie.Need-part-plain-sum-start
-part-plain-sum-start c = search needs
-
-part-plain-sum-end : tie.Need-part-plain-sum-end
-part-plain-sum-end c = search needs
-
-plain-sum-requires : tie.Need-plain-sum-requires
-plain-sum-requires c κs = search needs
-
-add-result-2 : tie.Need-add-result-2
-add-result-2 c = search needs
-
-cast-result-2 : tie.Need-cast-result-2
-cast-result-2 c = search needs
-
-mul-result : tie.Need-mul-result
-mul-result c = search needs
-
-add-result-3 : tie.Need-add-result-3
-add-result-3 c = search needs
-
-cast-result-3 : tie.Need-cast-result-3
-cast-result-3 c = search needs
 
 returns-2 : tie.Need-returns-2
 unfolding checkOf
@@ -67,17 +31,17 @@ pub check-body-spec : {M : Type 1} → statement M
 check-body-spec =
     tie.close
     (tie.spec
-    low-sum-requires
-    add-result
-    cast-result
+    (λ c κs. search needs)
+    (λ c. search needs)
+    (λ c. search needs)
     returns
-    sub-plain-sum
-    part-plain-sum-start
-    part-plain-sum-end
-    plain-sum-requires
-    add-result-2
-    cast-result-2
-    mul-result
-    add-result-3
-    cast-result-3
+    (λ c. search needs)
+    (λ c. search needs)
+    (λ c. search needs)
+    (λ c κs. search needs)
+    (λ c. search needs)
+    (λ c. search needs)
+    (λ c. search needs)
+    (λ c. search needs)
+    (λ c. search needs)
     returns-2)

@@ -6,9 +6,6 @@ use borrow.Author.Needs.{needs}
 use Rattle.blocks.proofs.check.check_of.Statement.{statement}
 use Rattle.blocks.proofs.check.check_of.Tie as tie
 
-check-body-requires : tie.Need-check-body-requires
-check-body-requires c κs = search needs
-
 returns : tie.Need-returns
 returns c =
     let b = c .before .before .before .args .block .now in
@@ -20,15 +17,12 @@ slice-aggregate-check-body c = simp length-take (omega arith)
 check-body-requires-2 : tie.Need-check-body-requires-2
 check-body-requires-2 c κs = simp length-take (omega arith)
 
-returns-2 : tie.Need-returns-2
-returns-2 c = search needs
-
 pub check-of-spec : {M : Type 1} → statement M
 check-of-spec =
     tie.close
     (tie.spec
-    check-body-requires
+    (λ c κs. search needs)
     returns
     slice-aggregate-check-body
     check-body-requires-2
-    returns-2)
+    (λ c. search needs))

@@ -1,5 +1,4 @@
 -- `blocks::check::is_sound` meets its contract. Assumes nothing.
-use borrow.Author.Needs.{needs}
 use borrow.Author.Tests.{eq-eqb, ne-eqb}
 use Rattle.blocks.specs.Tests.{_and_}
 use Rattle.blocks.specs.Block.{sound}
@@ -10,15 +9,9 @@ returns : tie.Need-returns
 unfolding sound _and_
 returns c = rw (ne-eqb _ 512 (c .if1 .taken))
 
-check-of-requires : tie.Need-check-of-requires
-check-of-requires c κs = search needs
-
-pair-requires : tie.Need-pair-requires
-pair-requires c κs = search needs
-
 returns-2 : tie.Need-returns-2
 unfolding sound _and_
 returns-2 c = rw (eq-eqb _ 512 (c .before .before .if1 .left), c .before .check-of .ensures .0, c .pair .ensures .0)
 
 pub is-sound-spec : {M : Type 1} → statement M
-is-sound-spec = tie.close (tie.spec returns check-of-requires pair-requires returns-2)
+is-sound-spec = tie.close (tie.spec returns (λ c κs. tt) (λ c κs. tt) returns-2)

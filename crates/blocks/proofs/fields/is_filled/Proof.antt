@@ -1,15 +1,14 @@
 -- `blocks::fields::is_filled` meets its contract: the fill is zero exactly if it is from octet i on. Assumes nothing.
 use mathlib.Core.Path.{_≡_, refl, sym, _∙_}
 use mathlib.Core.Bool.{true, false}
-use Prim.Native.Nat.{_+_, _-_, _≤_}
+use Prim.Native.Nat.{_+_, _-_}
 use native.Mathlib.Omega.{arith}
 use lib.Dec.{eqb}
 use lib.ListN.{drop}
-use borrow.Author.Needs.{needs}
 use borrow.Author.Tests.{eq-eqb, ne-eqb}
-use Rattle.octets.specs.Octets.{octetAt}
 use Rattle.blocks.specs.Block.{dataOf}
 use Rattle.blocks.specs.Record.{zeros}
+use Rattle.octets.specs.Octets.{octetAt}
 use Rattle.blocks.proofs.Laws.Logic.{and-not-left, and-passed}
 use Rattle.blocks.proofs.Laws.Fill.{fill-next, fill-done}
 use Rattle.blocks.proofs.fields.is_filled.Statement.{statement}
@@ -23,9 +22,6 @@ abbrev μ-loop : tie.MeasureT-loop
 
 loop-holds : tie.Need-loop-holds Inv-loop μ-loop
 loop-holds c = refl
-
-octet-past-requires : tie.Need-octet-past-requires Inv-loop μ-loop
-octet-past-requires c κs = search needs
 
 returns : tie.Need-returns Inv-loop μ-loop
 returns c =
@@ -60,7 +56,7 @@ is-filled-spec =
     Inv-loop
     μ-loop
     loop-holds
-    octet-past-requires
+    (λ c κs. tt)
     returns
     add-i
     loop-less

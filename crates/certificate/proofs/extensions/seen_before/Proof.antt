@@ -2,7 +2,6 @@
 use mathlib.Core.Path.{_≡_, refl, sym, _∙_}
 use Prim.Native.Nat.{_-_}
 use native.Mathlib.Omega.{arith}
-use borrow.Author.Needs.{needs}
 use Rattle.certificate.specs.Extensions.{sameIdentifier, seenBefore}
 use Rattle.der.specs.Header.{childrenOf}
 use Rattle.der.specs.declared.header.Head.{Head}
@@ -21,12 +20,6 @@ abbrev μ-loop : tie.MeasureT-loop
 loop-holds : tie.Need-loop-holds Inv-loop μ-loop
 unfolding seenBefore
 loop-holds c = refl
-
-head-at-requires : tie.Need-head-at-requires Inv-loop μ-loop
-head-at-requires c κs = search needs
-
-same-identifier-requires : tie.Need-same-identifier-requires Inv-loop μ-loop
-same-identifier-requires c κs = search needs
 
 returns : tie.Need-returns Inv-loop μ-loop
 returns c =
@@ -65,8 +58,8 @@ seen-before-spec =
     Inv-loop
     μ-loop
     loop-holds
-    head-at-requires
-    same-identifier-requires
+    (λ c κs. tt)
+    (λ c κs. tt)
     returns
     loop-less
     loop-again

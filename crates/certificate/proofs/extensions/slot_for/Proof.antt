@@ -3,24 +3,12 @@ use mathlib.Core.Path.{refl, sym, ap, _∙_}
 use mathlib.Core.Bool.{Bool, cond}
 use Prim.Native.Nat.{_+_}
 use borrow.Author.Needs.{needs}
+use Rattle.certificate.specs.Extensions.{nocheck, slotBy}
 use Rattle.octets.specs.Octets.{octetAt, octetsFrom}
 use Rattle.octets.specs.Same.{sameBy, exactly}
-use Rattle.certificate.specs.Extensions.{nocheck, slotBy}
 use Rattle.certificate.proofs.Laws.Extensions.{slot-three, slot-other}
 use Rattle.certificate.proofs.extensions.slot_for.Statement.{statement}
 use Rattle.certificate.proofs.extensions.slot_for.Tie as tie
-
-octet-requires : tie.Need-octet-requires
-octet-requires c κs = search needs
-
-octet-past-requires : tie.Need-octet-past-requires
-octet-past-requires c κs = search needs
-
-octet-past-requires-2 : tie.Need-octet-past-requires-2
-octet-past-requires-2 c κs = search needs
-
-slot-by-requires : tie.Need-slot-by-requires
-slot-by-requires c κs = search needs
 
 returns : tie.Need-returns
 returns c =
@@ -40,12 +28,6 @@ returns-2 c =
     sym (slot-three (a .s .now) (a .body) (a .n) _ _ (octetAt (a .s .now) (a .body + 2)) (o .before .if1 .taken) (o .octet .ensures)
     (b .octet-past .ensures) refl ∙ ap (λ (x : Bool). cond x (slotBy (octetAt (a .s .now) (a .body + 2))) 0) (c .if2 .left))
 
-slice-aggregate-equals : tie.Need-slice-aggregate-equals
-slice-aggregate-equals c = search needs
-
-equals-requires : tie.Need-equals-requires
-equals-requires c κs = search needs
-
 returns-3 : tie.Need-returns-3
 returns-3 c =
     let e = c .before in
@@ -54,12 +36,6 @@ returns-3 c =
     sym (slot-other (a .s .now) (a .body) (a .n) _ (sameBy exactly (octetsFrom (a .s .now) (a .body) (a .n)) nocheck) (i .if1 .left)
     (e .equals .ensures) refl ∙ ap (λ (x : Bool). cond x 8 (cond (sameBy exactly (octetsFrom (a .s .now) (a .body) (a .n)) nocheck) 10 0))
     (c .if3 .taken))
-
-slice-aggregate-equals-2 : tie.Need-slice-aggregate-equals-2
-slice-aggregate-equals-2 c = search needs
-
-equals-requires-2 : tie.Need-equals-requires-2
-equals-requires-2 c κs = search needs
 
 returns-4 : tie.Need-returns-4
 returns-4 c =
@@ -85,16 +61,16 @@ pub slot-for-spec : {M : Type 1} → statement M
 slot-for-spec =
     tie.close
     (tie.spec
-    octet-requires
-    octet-past-requires
-    octet-past-requires-2
-    slot-by-requires
+    (λ c κs. tt)
+    (λ c κs. tt)
+    (λ c κs. tt)
+    (λ c κs. tt)
     returns
     returns-2
-    slice-aggregate-equals
-    equals-requires
+    (λ c. search needs)
+    (λ c κs. tt)
     returns-3
-    slice-aggregate-equals-2
-    equals-requires-2
+    (λ c. search needs)
+    (λ c κs. tt)
     returns-4
     returns-5)

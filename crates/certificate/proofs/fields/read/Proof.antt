@@ -1,50 +1,7 @@
 -- `certificate::read` meets its contract. Assumes nothing.
-use borrow.Author.Needs.{needs}
 use Rattle.certificate.proofs.Laws.Fields.{read-law}
 use Rattle.certificate.proofs.fields.read.Statement.{statement}
 use Rattle.certificate.proofs.fields.read.Tie as tie
-
-head-any-requires : tie.Need-head-any-requires
-head-any-requires c κs = search needs
-
-head-any-requires-2 : tie.Need-head-any-requires-2
-head-any-requires-2 c κs = search needs
-
-first-in-requires : tie.Need-first-in-requires
-first-in-requires c κs = search needs
-
-past-requires : tie.Need-past-requires
-past-requires c κs = search needs
-
-after-requires : tie.Need-after-requires
-after-requires c κs = search needs
-
-after-requires-2 : tie.Need-after-requires-2
-after-requires-2 c κs = search needs
-
-after-requires-3 : tie.Need-after-requires-3
-after-requires-3 c κs = search needs
-
-first-in-requires-2 : tie.Need-first-in-requires-2
-first-in-requires-2 c κs = search needs
-
-after-requires-4 : tie.Need-after-requires-4
-after-requires-4 c κs = search needs
-
-after-requires-5 : tie.Need-after-requires-5
-after-requires-5 c κs = search needs
-
-after-requires-6 : tie.Need-after-requires-6
-after-requires-6 c κs = search needs
-
-list-after-requires : tie.Need-list-after-requires
-list-after-requires c κs = search needs
-
-after-requires-7 : tie.Need-after-requires-7
-after-requires-7 c κs = search needs
-
-validity-of-requires : tie.Need-validity-of-requires
-validity-of-requires c κs = search needs
 
 returns : tie.Need-returns
 returns c =
@@ -69,18 +26,18 @@ pub read-spec : {M : Type 1} → statement M
 read-spec =
     tie.close
     (tie.spec
-    head-any-requires
-    head-any-requires-2
-    first-in-requires
-    past-requires
-    after-requires
-    after-requires-2
-    after-requires-3
-    first-in-requires-2
-    after-requires-4
-    after-requires-5
-    after-requires-6
-    list-after-requires
-    after-requires-7
-    validity-of-requires
+    (λ c κs. tt)
+    (λ c κs. tt)
+    (λ c κs. tt)
+    (λ c κs. tt)
+    (λ c κs. tt)
+    (λ c κs. tt)
+    (λ c κs. tt)
+    (λ c κs. tt)
+    (λ c κs. tt)
+    (λ c κs. tt)
+    (λ c κs. tt)
+    (λ c κs. tt)
+    (λ c κs. tt)
+    (λ c κs. tt)
     returns)

@@ -2,7 +2,6 @@
 -- Assumes nothing.
 use Prim.Native.Nat.{_-_, _<_}
 use native.Mathlib.Omega.{arith}
-use borrow.Author.Needs.{needs}
 use Rattle.der.specs.Header.{childrenOf}
 use Rattle.der.proofs.Laws.Header.{head-forward}
 use Rattle.certificate.proofs.Laws.Slots.{slot-below, Filled, filled-none, filled-next, filled-all}
@@ -18,12 +17,6 @@ abbrev μ-loop : tie.MeasureT-loop
 loop-holds : tie.Need-loop-holds Inv-loop μ-loop
 loop-holds c = let a = c .before .args in filled-none (a .s .now) (childrenOf (a .s .now) (a .list .body) (a .list .end))
 
-head-at-requires : tie.Need-head-at-requires Inv-loop μ-loop
-head-at-requires c κs = search needs
-
-slot-of-requires : tie.Need-slot-of-requires Inv-loop μ-loop
-slot-of-requires c κs = search needs
-
 -- the table has 11 slots
 below : (c : tie.After-slot-of Inv-loop μ-loop) → c .slot-of .result < 11
 below c = rw (c .slot-of .ensures) (slot-below _)
@@ -33,9 +26,6 @@ mul-or-else c = omega (arith, below c)
 
 array-read-or-else : tie.Need-array-read-or-else Inv-loop μ-loop
 array-read-or-else c = below c
-
-or-else-requires : tie.Need-or-else-requires Inv-loop μ-loop
-or-else-requires c κs = search needs
 
 mul-starts : tie.Need-mul-starts Inv-loop μ-loop
 mul-starts c = omega (arith, below (c .before))
@@ -73,11 +63,11 @@ first-extensions-spec =
     Inv-loop
     μ-loop
     loop-holds
-    head-at-requires
-    slot-of-requires
+    (λ c κs. tt)
+    (λ c κs. tt)
     mul-or-else
     array-read-or-else
-    or-else-requires
+    (λ c κs. tt)
     mul-starts
     array-write-starts
     loop-less

@@ -1,22 +1,12 @@
 -- `certificate::slots::good_start` meets its contract. Assumes nothing.
 use mathlib.Core.Path.{sym, ap, _∙_}
 use mathlib.Core.Bool.{Bool, cond}
-use borrow.Author.Needs.{needs}
 use Rattle.certificate.proofs.Laws.Slots.{good-none, good-some}
 use Rattle.certificate.proofs.slots.good_start.Statement.{statement}
 use Rattle.certificate.proofs.slots.good_start.Tie as tie
 
 returns : tie.Need-returns
 returns c = let a = c .before .before .args in good-none (a .s .now) (a .end) (a .slot) (a .at) (c .if1 .taken)
-
-head-at-requires : tie.Need-head-at-requires
-head-at-requires c κs = search needs
-
-extension-of-requires : tie.Need-extension-of-requires
-extension-of-requires c κs = search needs
-
-value-ok-requires : tie.Need-value-ok-requires
-value-ok-requires c κs = search needs
 
 returns-2 : tie.Need-returns-2
 returns-2 c =
@@ -39,4 +29,4 @@ returns-3 c =
 pub good-start-spec : {M : Type 1} → statement M
 good-start-spec =
     tie.close
-    (tie.spec returns head-at-requires extension-of-requires value-ok-requires returns-2 returns-3)
+    (tie.spec returns (λ c κs. tt) (λ c κs. tt) (λ c κs. tt) returns-2 returns-3)

@@ -1,17 +1,7 @@
 -- `der::same_element` meets its contract. Assumes nothing.
-use borrow.Author.Needs.{needs}
 use Rattle.der.specs.Comparing.{octetsAre}
 use Rattle.der.proofs.comparing.same_element.Statement.{statement}
 use Rattle.der.proofs.comparing.same_element.Tie as tie
-
-minus-requires : tie.Need-minus-requires
-minus-requires c κs = search needs
-
-minus-requires-2 : tie.Need-minus-requires-2
-minus-requires-2 c κs = search needs
-
-same-stretch-requires : tie.Need-same-stretch-requires
-same-stretch-requires c κs = search needs
 
 returns : tie.Need-returns
 unfolding octetsAre
@@ -19,4 +9,4 @@ returns c = cc
 
 pub same-element-spec : {M : Type 1} → statement M
 same-element-spec =
-    tie.close (tie.spec minus-requires minus-requires-2 same-stretch-requires returns)
+    tie.close (tie.spec (λ c κs. tt) (λ c κs. tt) (λ c κs. tt) returns)

@@ -1,23 +1,10 @@
 -- `der::contents::bits_ok` meets its contract. Assumes nothing.
 use mathlib.Core.Path.{ap, _∙_}
 use Prim.Native.Nat.{ℕ, _+_}
-use borrow.Author.Needs.{needs}
 use Rattle.octets.specs.Octets.{octetAt}
 use Rattle.der.proofs.Laws.Contents.{bits-law}
 use Rattle.der.proofs.contents.bits_ok.Statement.{statement}
 use Rattle.der.proofs.contents.bits_ok.Tie as tie
-
-octet-requires : tie.Need-octet-requires
-octet-requires c κs = search needs
-
-minus-requires : tie.Need-minus-requires
-minus-requires c κs = search needs
-
-octet-past-requires : tie.Need-octet-past-requires
-octet-past-requires c κs = search needs
-
-low-zero-requires : tie.Need-low-zero-requires
-low-zero-requires c κs = search needs
 
 returns : tie.Need-returns
 returns c =
@@ -31,4 +18,4 @@ returns c =
 pub bits-ok-spec : {M : Type 1} → statement M
 bits-ok-spec =
     tie.close
-    (tie.spec octet-requires minus-requires octet-past-requires low-zero-requires returns)
+    (tie.spec (λ c κs. tt) (λ c κs. tt) (λ c κs. tt) (λ c κs. tt) returns)

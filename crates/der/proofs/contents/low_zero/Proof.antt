@@ -9,9 +9,6 @@ use Rattle.der.proofs.Laws.Contents.{byte-shift, byte-mod}
 use Rattle.der.proofs.contents.low_zero.Statement.{statement}
 use Rattle.der.proofs.contents.low_zero.Tie as tie
 
-shl-result : tie.Need-shl-result
-shl-result c = search needs
-
 rem-result : tie.Need-rem-result
 rem-result c =
     let k = c .before .args .unused in
@@ -28,4 +25,4 @@ returns-2 c =
     ap (λ (m : ℕ). eqb m 0) (sym (byte-mod (a .b) (a .unused) (c .before .fits .b .fits) (c .if1 .left)))
 
 pub low-zero-spec : {M : Type 1} → statement M
-low-zero-spec = tie.close (tie.spec shl-result rem-result returns returns-2)
+low-zero-spec = tie.close (tie.spec (λ c. search needs) rem-result returns returns-2)

@@ -2,7 +2,6 @@
 use mathlib.Core.Path.{_≡_, sym, _∙_}
 use Prim.Native.Nat.{_+_, _-_}
 use native.Mathlib.Omega.{arith}
-use borrow.Author.Needs.{needs}
 use Rattle.der.specs.Contents.{oidOk, arcsOk}
 use Rattle.octets.specs.Octets.{octetsFrom}
 use Rattle.der.proofs.Laws.Contents.{oid-none, oid-some, arcs-bad, arcs-good, arcs-done}
@@ -20,9 +19,6 @@ returns c = let a = c .before .before .args in sym (oid-none (a .s .now) (a .bod
 
 loop-holds : tie.Need-loop-holds Inv-loop μ-loop
 loop-holds c = let a = c .before .before .args in oid-some (a .s .now) (a .body) (a .n) (c .if1 .left)
-
-octet-past-requires : tie.Need-octet-past-requires Inv-loop μ-loop
-octet-past-requires c κs = search needs
 
 returns-2 : tie.Need-returns-2 Inv-loop μ-loop
 returns-2 c =
@@ -58,7 +54,7 @@ oid-ok-spec =
     μ-loop
     returns
     loop-holds
-    octet-past-requires
+    (λ c κs. tt)
     returns-2
     add-k
     loop-less

@@ -1,27 +1,11 @@
 -- `der::primitive_ok` meets its contract. Assumes nothing.
 use mathlib.Core.Path.{sym, ap, _∙_}
 use mathlib.Core.Bool.{not}
-use borrow.Author.Needs.{needs}
 use Rattle.der.specs.Contents.{primitiveOk}
 use Rattle.octets.specs.Octets.{octetsFrom}
 use Rattle.der.proofs.Laws.Contents.{null-law, number-integer, number-other}
 use Rattle.der.proofs.contents.primitive_ok.Statement.{statement}
 use Rattle.der.proofs.contents.primitive_ok.Tie as tie
-
-boolean-ok-requires : tie.Need-boolean-ok-requires
-boolean-ok-requires c κs = search needs
-
-integer-ok-requires : tie.Need-integer-ok-requires
-integer-ok-requires c κs = search needs
-
-bits-ok-requires : tie.Need-bits-ok-requires
-bits-ok-requires c κs = search needs
-
-oid-ok-requires : tie.Need-oid-ok-requires
-oid-ok-requires c κs = search needs
-
-holds-elements-requires : tie.Need-holds-elements-requires
-holds-elements-requires c κs = search needs
 
 returns : tie.Need-returns
 unfolding primitiveOk
@@ -55,11 +39,11 @@ pub primitive-ok-spec : {M : Type 1} → statement M
 primitive-ok-spec =
     tie.close
     (tie.spec
-    boolean-ok-requires
-    integer-ok-requires
-    bits-ok-requires
-    oid-ok-requires
-    holds-elements-requires
+    (λ c κs. tt)
+    (λ c κs. tt)
+    (λ c κs. tt)
+    (λ c κs. tt)
+    (λ c κs. tt)
     returns
     returns-2
     returns-3

@@ -1,24 +1,14 @@
 -- `der::contents::universal_ok` meets its contract. Assumes nothing.
 use mathlib.Core.Path.{_≡_, sym, _∙_}
 use mathlib.Core.Bool.{true, false}
-use borrow.Author.Needs.{needs}
 use Rattle.der.specs.Contents.{constructed}
 use Rattle.der.proofs.contents.universal_ok.Statement.{statement}
 use Rattle.der.proofs.contents.universal_ok.Tie as tie
-
-is-constructed-requires : tie.Need-is-constructed-requires
-is-constructed-requires c κs = search needs
-
-holds-elements-requires : tie.Need-holds-elements-requires
-holds-elements-requires c κs = search needs
 
 returns : tie.Need-returns
 returns c =
     let k : constructed (c .before .before .before .before .args .tag) ≡ true = sym (c .before .before .is-constructed .ensures) ∙ c .before .if1 .taken in
     rw k (c .holds-elements .ensures)
-
-primitive-ok-requires : tie.Need-primitive-ok-requires
-primitive-ok-requires c κs = search needs
 
 returns-2 : tie.Need-returns-2
 returns-2 c =
@@ -29,8 +19,8 @@ pub universal-ok-spec : {M : Type 1} → statement M
 universal-ok-spec =
     tie.close
     (tie.spec
-    is-constructed-requires
-    holds-elements-requires
+    (λ c κs. tt)
+    (λ c κs. tt)
     returns
-    primitive-ok-requires
+    (λ c κs. tt)
     returns-2)

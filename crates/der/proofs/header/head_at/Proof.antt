@@ -11,9 +11,6 @@ use Rattle.der.proofs.Laws.Header.{head-short, head-narrow, head-outsid
 use Rattle.der.proofs.header.head_at.Statement.{statement}
 use Rattle.der.proofs.header.head_at.Tie as tie
 
-within-requires : tie.Need-within-requires
-within-requires c κs = search needs
-
 -- two octets at least are left
 inside : (c : tie.Then2) → c .before .before .before .before .args .at + 2 ≤ c .before .before .before .before .args .end
 inside c =
@@ -29,12 +26,6 @@ add-first c = omega (arith, inside (c .before))
 shared-slice-read-first : tie.Need-shared-slice-read-first
 shared-slice-read-first c = omega (arith, inside (c .before .before))
 
-wide-requires : tie.Need-wide-requires
-wide-requires c κs = search needs
-
-head-if-requires : tie.Need-head-if-requires
-head-if-requires c κs = search needs
-
 returns : tie.Need-returns
 returns c =
     let w = c .before in
@@ -44,23 +35,11 @@ returns c =
     (a .at) (a .end) (octetAt (a .s .now) (a .at)) (octetAt (a .s .now) (a .at + 1)) (k .before .before .if1 .taken) refl refl
     (w .before .if3 .taken))
 
-head-any-requires : tie.Need-head-any-requires
-head-any-requires c κs = search needs
-
-returns-2 : tie.Need-returns-2
-returns-2 c = search needs
-
-broken-head-requires : tie.Need-broken-head-requires
-broken-head-requires c κs = search needs
-
 returns-3 : tie.Need-returns-3
 returns-3 c =
     let k = c .before .before in
     let a = k .before .before .before .args in
     c .broken-head .ensures ∙ sym (head-narrow (a .s .now) (a .at) (a .end) (leb-false (a .at + 2) (a .end) (sym (k .within .ensures) ∙ c .before .if2 .left)))
-
-broken-head-requires-2 : tie.Need-broken-head-requires-2
-broken-head-requires-2 c κs = search needs
 
 returns-4 : tie.Need-returns-4
 returns-4 c =
@@ -71,16 +50,16 @@ pub head-at-spec : {M : Type 1} → statement M
 head-at-spec =
     tie.close
     (tie.spec
-    within-requires
+    (λ c κs. tt)
     shared-slice-read-tag
     add-first
     shared-slice-read-first
-    wide-requires
-    head-if-requires
+    (λ c κs. tt)
+    (λ c κs. tt)
     returns
-    head-any-requires
-    returns-2
-    broken-head-requires
+    (λ c κs. tt)
+    (λ c. search needs)
+    (λ c κs. tt)
     returns-3
-    broken-head-requires-2
+    (λ c κs. tt)
     returns-4)

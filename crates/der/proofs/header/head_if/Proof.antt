@@ -3,18 +3,11 @@ use mathlib.Core.Path.{_≡_, sym, _∙_}
 use mathlib.Core.Bool.{true}
 use Prim.Native.Nat.{_+_, _≤_}
 use native.Mathlib.Omega.{arith}
-use borrow.Author.Needs.{needs}
 use borrow.Author.Tests.{leb-true}
 use Rattle.octets.proofs.Laws.Tests.{and-l, and-r}
 use Rattle.der.proofs.Laws.Header.{head-whole, head-broken}
 use Rattle.der.proofs.header.head_if.Statement.{statement}
 use Rattle.der.proofs.header.head_if.Tie as tie
-
-fits-requires : tie.Need-fits-requires
-fits-requires c κs = search needs
-
-tag-ok-requires : tie.Need-tag-ok-requires
-tag-ok-requires c κs = search needs
 
 -- where all tests passed the element ends before `end`
 inside : (c : tie.Then1)
@@ -42,9 +35,6 @@ returns c =
     head-whole (a .good) (a .at) (a .end) (a .tag) (a .skip) (a .len) (c .before .tag-ok .result) (f .fits2 .result)
     (c .before .tag-ok .ensures) (f .fits2 .ensures) (c .if1 .taken)
 
-broken-head-requires : tie.Need-broken-head-requires
-broken-head-requires c κs = search needs
-
 returns-2 : tie.Need-returns-2
 returns-2 c =
     let f = c .before .before .before in
@@ -56,11 +46,11 @@ pub head-if-spec : {M : Type 1} → statement M
 head-if-spec =
     tie.close
     (tie.spec
-    fits-requires
-    tag-ok-requires
+    (λ c κs. tt)
+    (λ c κs. tt)
     add-t11
     add-t12
     add-t13
     returns
-    broken-head-requires
+    (λ c κs. tt)
     returns-2)

@@ -7,41 +7,14 @@ use Rattle.der.proofs.Laws.Length.{length-one, length-two}
 use Rattle.der.proofs.header.length_at.Statement.{statement}
 use Rattle.der.proofs.header.length_at.Tie as tie
 
-wide-requires : tie.Need-wide-requires
-wide-requires c κs = search needs
-
 returns : tie.Need-returns
 returns c = rw (lt-ltb _ _ (c .before .if1 .taken)) (omega (arith, c .wide .ensures .0, c .before .if1 .taken))
-
-octet-past-requires : tie.Need-octet-past-requires
-octet-past-requires c κs = search needs
-
-wide-requires-2 : tie.Need-wide-requires-2
-wide-requires-2 c κs = search needs
 
 returns-2 : tie.Need-returns-2
 returns-2 c =
     let o = c .before in
     let a = o .before .before .before .before .args in
     length-one (a .s .now) (a .at) (a .first) _ (o .before .if2 .taken) (c .wide2 .ensures .0 ∙ o .octet-past .ensures) (c .wide2 .ensures .1)
-
-octet-past-requires-2 : tie.Need-octet-past-requires-2
-octet-past-requires-2 c κs = search needs
-
-wide-requires-3 : tie.Need-wide-requires-3
-wide-requires-3 c κs = search needs
-
-mul-result : tie.Need-mul-result
-mul-result c = search needs
-
-octet-past-requires-3 : tie.Need-octet-past-requires-3
-octet-past-requires-3 c κs = search needs
-
-wide-requires-4 : tie.Need-wide-requires-4
-wide-requires-4 c κs = search needs
-
-add-result : tie.Need-add-result
-add-result c = search needs
 
 returns-3 : tie.Need-returns-3
 returns-3 c =
@@ -53,12 +26,6 @@ returns-3 c =
     (v .wide3 .ensures .0 ∙ o .octet-past2 .ensures) (c .wide4 .ensures .0 ∙ p .octet-past3 .ensures)
     (v .wide3 .ensures .1) (c .wide4 .ensures .1)
 
-more-octets-requires : tie.Need-more-octets-requires
-more-octets-requires c κs = search needs
-
-number-requires : tie.Need-number-requires
-number-requires c κs = search needs
-
 returns-4 : tie.Need-returns-4
 returns-4 c = rw (le-ltb _ _ (c .before .before .before .before .if1 .left), ← (c .before .more-octets .ensures)) (c .number .ensures)
 
@@ -66,18 +33,18 @@ pub length-at-spec : {M : Type 1} → statement M
 length-at-spec =
     tie.close
     (tie.spec
-    wide-requires
+    (λ c κs. tt)
     returns
-    octet-past-requires
-    wide-requires-2
+    (λ c κs. tt)
+    (λ c κs. tt)
     returns-2
-    octet-past-requires-2
-    wide-requires-3
-    mul-result
-    octet-past-requires-3
-    wide-requires-4
-    add-result
+    (λ c κs. tt)
+    (λ c κs. tt)
+    (λ c. search needs)
+    (λ c κs. tt)
+    (λ c κs. tt)
+    (λ c. search needs)
     returns-3
-    more-octets-requires
-    number-requires
+    (λ c κs. tt)
+    (λ c κs. tt)
     returns-4)

@@ -1,14 +1,13 @@
 -- `der::ascending` meets its contract. The invariant: the answer is that of the elements from i on, after the one from `from` to i.
 -- Assumes nothing.
-use Prim.Native.Nat.{_-_}
 use mathlib.Core.Path.{_≡_, sym, _∙_}
 use mathlib.Core.List.{map}
+use Prim.Native.Nat.{_-_}
 use native.Mathlib.Omega.{arith}
-use borrow.Author.Needs.{needs}
 use borrow.Author.Tests.{not-true, not-false}
-use Rattle.octets.specs.Octets.{octetsFrom}
 use Rattle.der.specs.Header.{childrenOf}
 use Rattle.der.specs.Order.{ascendFrom, ascending, octetsOf}
+use Rattle.octets.specs.Octets.{octetsFrom}
 use Rattle.der.proofs.Laws.Header.{head-forward}
 use Rattle.der.proofs.Laws.Order.{ascend-begins, ascend-done, ascend-bad, ascend-next}
 use Rattle.der.proofs.order.ascending.Statement.{statement}
@@ -23,12 +22,6 @@ abbrev μ-loop : tie.MeasureT-loop
 
 loop-holds : tie.Need-loop-holds Inv-loop μ-loop
 loop-holds c = let a = c .before .args in ascend-begins (a .s .now) (a .at) (a .end)
-
-head-at-requires : tie.Need-head-at-requires Inv-loop μ-loop
-head-at-requires c κs = search needs
-
-may-follow-requires : tie.Need-may-follow-requires Inv-loop μ-loop
-may-follow-requires c κs = search needs
 
 returns : tie.Need-returns Inv-loop μ-loop
 returns c =
@@ -70,8 +63,8 @@ ascending-spec =
     Inv-loop
     μ-loop
     loop-holds
-    head-at-requires
-    may-follow-requires
+    (λ c κs. tt)
+    (λ c κs. tt)
     returns
     loop-less
     loop-again

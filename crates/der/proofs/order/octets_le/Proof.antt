@@ -3,7 +3,6 @@ use mathlib.Core.Path.{_≡_, sym, _∙_}
 use Prim.Native.Nat.{_+_, _-_}
 use native.Mathlib.Nat.{add-zero, sub-zero}
 use native.Mathlib.Omega.{arith}
-use borrow.Author.Needs.{needs}
 use Rattle.der.specs.Order.{octetsLe}
 use Rattle.octets.specs.Octets.{octetsFrom}
 use Rattle.der.proofs.Laws.Order.{le-done, le-short, le-below, le-above, le-same}
@@ -24,12 +23,6 @@ returns c =
     let p = c .before .before in
     let x = p .before .before .args in
     sym (p .loop .inv ∙ le-short (x .s .now) (x .a) (x .n) (x .b) (x .m) (p .loop .k) (c .before .loop-test .taken) (c .if1 .taken))
-
-octet-past-requires : tie.Need-octet-past-requires Inv-loop μ-loop
-octet-past-requires c κs = search needs
-
-octet-past-requires-2 : tie.Need-octet-past-requires-2 Inv-loop μ-loop
-octet-past-requires-2 c κs = search needs
 
 returns-2 : tie.Need-returns-2 Inv-loop μ-loop
 returns-2 c =
@@ -78,8 +71,8 @@ octets-le-spec =
     μ-loop
     loop-holds
     returns
-    octet-past-requires
-    octet-past-requires-2
+    (λ c κs. tt)
+    (λ c κs. tt)
     returns-2
     returns-3
     add-k

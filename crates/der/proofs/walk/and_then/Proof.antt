@@ -5,33 +5,6 @@ use Rattle.der.proofs.Laws.Walks.{then-sound}
 use Rattle.der.proofs.walk.and_then.Statement.{statement}
 use Rattle.der.proofs.walk.and_then.Tie as tie
 
-enum-told : tie.Need-enum-told
-enum-told c = search needs
-
-enum-known-b : tie.Need-enum-known-b
-enum-known-b c = search needs
-
-enum-told-2 : tie.Need-enum-told-2
-enum-told-2 c = search needs
-
-enum-known-a : tie.Need-enum-known-a
-enum-known-a c = search needs
-
-enum-told-3 : tie.Need-enum-told-3
-enum-told-3 c = search needs
-
-enum-known-b-2 : tie.Need-enum-known-b-2
-enum-known-b-2 c = search needs
-
-enum-told-4 : tie.Need-enum-told-4
-enum-told-4 c = search needs
-
-enum-known-a-2 : tie.Need-enum-known-a-2
-enum-known-a-2 c = search needs
-
-enum-known-a-3 : tie.Need-enum-known-a-3
-enum-known-a-3 c = search needs
-
 returns : tie.Need-returns
 returns c = rw (c .enum-told .given .1) (sym (then-sound (c .before .before .args .a)))
 
@@ -57,15 +30,15 @@ pub and-then-spec : {M : Type 1} → statement M
 and-then-spec =
     tie.close
     (tie.spec
-    enum-told
-    enum-known-b
-    enum-told-2
-    enum-known-a
-    enum-told-3
-    enum-known-b-2
-    enum-told-4
-    enum-known-a-2
-    enum-known-a-3
+    (λ c. search needs)
+    (λ c. search needs)
+    (λ c. search needs)
+    (λ c. search needs)
+    (λ c. search needs)
+    (λ c. search needs)
+    (λ c. search needs)
+    (λ c. search needs)
+    (λ c. search needs)
     returns
     returns-2
     returns-3

@@ -1,15 +1,8 @@
 -- `der::check_stretch` meets its contract. Assumes nothing.
 use mathlib.Core.Path.{sym, _∙_}
-use borrow.Author.Needs.{needs}
 use Rattle.der.proofs.Laws.Walks.{stretch-empty, stretch-torn, stretch-filled}
 use Rattle.der.proofs.walk.check_stretch.Statement.{statement}
 use Rattle.der.proofs.walk.check_stretch.Tie as tie
-
-head-any-requires : tie.Need-head-any-requires
-head-any-requires c κs = search needs
-
-check-list-requires : tie.Need-check-list-requires
-check-list-requires c κs = search needs
 
 returns : tie.Need-returns
 returns c =
@@ -31,4 +24,4 @@ returns-3 c =
 
 pub check-stretch-spec : {M : Type 1} → statement M
 check-stretch-spec =
-    tie.close (tie.spec head-any-requires check-list-requires returns returns-2 returns-3)
+    tie.close (tie.spec (λ c κs. tt) (λ c κs. tt) returns returns-2 returns-3)

@@ -5,15 +5,9 @@ use Rattle.lint.specs.Judging.{admissionOf}
 use Rattle.lint.proofs.judging.admit.Statement.{statement}
 use Rattle.lint.proofs.judging.admit.Tie as tie
 
-length-ok-requires : tie.Need-length-ok-requires
-length-ok-requires c κs = search needs
-
 returns : tie.Need-returns
 unfolding admissionOf
 returns c = rw (← c .before .length-ok .ensures, not-true (c .before .length-ok .result) (c .if1 .taken))
-
-length-ok-requires-2 : tie.Need-length-ok-requires-2
-length-ok-requires-2 c κs = search needs
 
 returns-2 : tie.Need-returns-2
 unfolding admissionOf
@@ -26,15 +20,6 @@ returns-2 c =
           .ensures,
       not-true (c .before .length-ok2 .result) (c .if2 .taken),
     )
-
-profile-of-requires : tie.Need-profile-of-requires
-profile-of-requires c κs = search needs
-
-enum-told : tie.Need-enum-told
-enum-told c = search needs
-
-enum-known-asked : tie.Need-enum-known-asked
-enum-known-asked c = search needs
 
 returns-3 : tie.Need-returns-3
 unfolding admissionOf
@@ -72,12 +57,12 @@ pub admit-spec : {M : Type 1} → statement M
 admit-spec =
     tie.close
     (tie.spec
-    length-ok-requires
+    (λ c κs. tt)
     returns
-    length-ok-requires-2
+    (λ c κs. tt)
     returns-2
-    profile-of-requires
-    enum-told
-    enum-known-asked
+    (λ c κs. tt)
+    (λ c. search needs)
+    (λ c. search needs)
     returns-3
     returns-4)

@@ -3,15 +3,6 @@ use borrow.Author.Needs.{needs}
 use Rattle.lint.proofs.judging.by_verdict.Statement.{statement}
 use Rattle.lint.proofs.judging.by_verdict.Tie as tie
 
-enum-told : tie.Need-enum-told
-enum-told c = search needs
-
-enum-known-verdict : tie.Need-enum-known-verdict
-enum-known-verdict c = search needs
-
-enum-told-2 : tie.Need-enum-told-2
-enum-told-2 c = search needs
-
 returns : tie.Need-returns
 returns c = rw (c .enum-told .given .1)
 
@@ -23,4 +14,4 @@ returns-3 c = rw (c .enum-told2 .given .1)
 
 pub by-verdict-spec : {M : Type 1} → statement M
 by-verdict-spec =
-    tie.close (tie.spec enum-told enum-known-verdict enum-told-2 returns returns-2 returns-3)
+    tie.close (tie.spec (λ c. search needs) (λ c. search needs) (λ c. search needs) returns returns-2 returns-3)

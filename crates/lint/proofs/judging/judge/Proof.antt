@@ -4,18 +4,6 @@ use Rattle.lint.specs.Judging.{judgementOf}
 use Rattle.lint.proofs.judging.judge.Statement.{statement}
 use Rattle.lint.proofs.judging.judge.Tie as tie
 
-admit-requires : tie.Need-admit-requires
-admit-requires c κs = search needs
-
-enum-known-admission : tie.Need-enum-known-admission
-enum-known-admission c = search needs
-
-enum-known-admission-2 : tie.Need-enum-known-admission-2
-enum-known-admission-2 c = search needs
-
-judge-both-requires : tie.Need-judge-both-requires
-judge-both-requires c κs = search needs
-
 returns : tie.Need-returns
 unfolding judgementOf
 returns c =
@@ -32,9 +20,9 @@ pub judge-spec : {M : Type 1} → statement M
 judge-spec =
     tie.close
     (tie.spec
-    admit-requires
-    enum-known-admission
-    enum-known-admission-2
-    judge-both-requires
+    (λ c κs. tt)
+    (λ c. search needs)
+    (λ c. search needs)
+    (λ c κs. tt)
     returns
     returns-2)

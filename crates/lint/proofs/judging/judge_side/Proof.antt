@@ -4,24 +4,6 @@ use Rattle.lint.specs.Judging.{sideJudgement}
 use Rattle.lint.proofs.judging.judge_side.Statement.{statement}
 use Rattle.lint.proofs.judging.judge_side.Tie as tie
 
-check-der-requires : tie.Need-check-der-requires
-check-der-requires c κs = search needs
-
-enum-told : tie.Need-enum-told
-enum-told c = search needs
-
-check-certificate-requires : tie.Need-check-certificate-requires
-check-certificate-requires c κs = search needs
-
-by-verdict-requires : tie.Need-by-verdict-requires
-by-verdict-requires c κs = search needs
-
-enum-known-found : tie.Need-enum-known-found
-enum-known-found c = search needs
-
-enum-known-found-2 : tie.Need-enum-known-found-2
-enum-known-found-2 c = search needs
-
 returns : tie.Need-returns
 unfolding sideJudgement
 returns c =
@@ -40,12 +22,12 @@ pub judge-side-spec : {M : Type 1} → statement M
 judge-side-spec =
     tie.close
     (tie.spec
-    check-der-requires
-    enum-told
-    check-certificate-requires
-    by-verdict-requires
-    enum-known-found
-    enum-known-found-2
+    (λ c κs. tt)
+    (λ c. search needs)
+    (λ c κs. tt)
+    (λ c κs. tt)
+    (λ c. search needs)
+    (λ c. search needs)
     returns
     returns-2
     returns-3)

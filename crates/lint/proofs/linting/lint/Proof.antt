@@ -4,26 +4,11 @@ use Rattle.lint.specs.Answers.{answerOf, roomOf}
 use Rattle.lint.proofs.linting.lint.Statement.{statement}
 use Rattle.lint.proofs.linting.lint.Tie as tie
 
-judge-requires : tie.Need-judge-requires
-judge-requires c κs = search needs
-
-enum-known-judgement : tie.Need-enum-known-judgement
-enum-known-judgement c = search needs
-
-enum-known-judgement-2 : tie.Need-enum-known-judgement-2
-enum-known-judgement-2 c = search needs
-
-report-on-requires : tie.Need-report-on-requires
-report-on-requires c κs = search needs
-
 returns : tie.Need-returns
 unfolding answerOf roomOf
 returns c =
     let told = c .before in
     record { told = rw (← told .before .before .judge .ensures, told .judgement .given .1); bytes = rw (← told .before .before .judge .ensures, told .judgement .given .1) }
-
-same-length : tie.Need-same-length
-same-length c = search needs
 
 returns-2 : tie.Need-returns-2
 unfolding answerOf roomOf
@@ -39,10 +24,10 @@ pub lint-spec : {M : Type 1} → statement M
 lint-spec =
     tie.close
     (tie.spec
-    judge-requires
-    enum-known-judgement
-    enum-known-judgement-2
-    report-on-requires
+    (λ c κs. tt)
+    (λ c. search needs)
+    (λ c. search needs)
+    (λ c κs. tt)
     returns
-    same-length
+    (λ c. search needs)
     returns-2)

@@ -4,31 +4,10 @@ use Rattle.lint.proofs.Laws.Answers.{reported-short, reported-written, 
 use Rattle.lint.proofs.linting.report_fields.Statement.{statement}
 use Rattle.lint.proofs.linting.report_fields.Tie as tie
 
-slice-relend-prefix-all-rules : tie.Need-slice-relend-prefix-all-rules
-slice-relend-prefix-all-rules c = search needs
-
-slice-aggregate-all-rules : tie.Need-slice-aggregate-all-rules
-slice-aggregate-all-rules c = search needs
-
-all-rules-requires : tie.Need-all-rules-requires
-all-rules-requires c κs = search needs
-
-has-room-requires : tie.Need-has-room-requires
-has-room-requires c κs = search needs
-
-same-length : tie.Need-same-length
-same-length c = search needs
-
 returns : tie.Need-returns
 returns c =
     let fit = c .before in
     reported-short _ _ (fit .before .before .before .all-rules .ensures) (fit .has-room .ensures) (c .if1 .taken)
-
-all-rules-requires-2 : tie.Need-all-rules-requires-2
-all-rules-requires-2 c κs = search needs
-
-same-length-2 : tie.Need-same-length-2
-same-length-2 c = search needs
 
 returns-2 : tie.Need-returns-2
 returns-2 c =
@@ -40,9 +19,6 @@ returns-2 c =
     let given = known .slice-known .given in
     reported-written _ (a .room .now) (fit .before .before .before .all-rules .ensures) (fit .has-room .ensures) (test .if1 .left)
     (search (needs, given)) (written .all-rules2 .ensures)
-
-same-length-3 : tie.Need-same-length-3
-same-length-3 c = search needs
 
 returns-3 : tie.Need-returns-3
 returns-3 c =
@@ -58,14 +34,14 @@ pub report-fields-spec : {M : Type 1} → statement M
 report-fields-spec =
     tie.close
     (tie.spec
-    slice-relend-prefix-all-rules
-    slice-aggregate-all-rules
-    all-rules-requires
-    has-room-requires
-    same-length
+    (λ c. search needs)
+    (λ c. search needs)
+    (λ c κs. tt)
+    (λ c κs. tt)
+    (λ c. search needs)
     returns
-    all-rules-requires-2
-    same-length-2
+    (λ c κs. tt)
+    (λ c. search needs)
     returns-2
-    same-length-3
+    (λ c. search needs)
     returns-3)

@@ -3,7 +3,6 @@ use mathlib.Core.Path.{_≡_, sym, _∙_}
 use Prim.Native.Nat.{_+_, _-_}
 use native.Mathlib.Nat.{add-zero, sub-zero}
 use native.Mathlib.Omega.{arith}
-use borrow.Author.Needs.{needs}
 use Rattle.names.specs.Hosts.{hasOctet}
 use Rattle.octets.specs.Octets.{octetsFrom}
 use Rattle.names.proofs.Laws.Hosts.{has-done, has-found, has-next}
@@ -18,9 +17,6 @@ abbrev μ-loop : tie.MeasureT-loop
 
 loop-holds : tie.Need-loop-holds Inv-loop μ-loop
 loop-holds c = simp (add-zero, sub-zero)
-
-octet-past-requires : tie.Need-octet-past-requires Inv-loop μ-loop
-octet-past-requires c κs = search needs
 
 returns : tie.Need-returns Inv-loop μ-loop
 returns c =
@@ -55,7 +51,7 @@ has-octet-spec =
     Inv-loop
     μ-loop
     loop-holds
-    octet-past-requires
+    (λ c κs. tt)
     returns
     add-k
     loop-less

@@ -1,7 +1,6 @@
 -- `names::has_underscore` meets its contract. Assumes nothing.
 use mathlib.Core.Path.{sym, ap, _∙_}
 use Prim.Native.Nat.{ℕ}
-use borrow.Author.Needs.{needs}
 use Rattle.names.specs.Names.{isDnsName}
 use Rattle.names.specs.Hosts.{hasOctet}
 use Rattle.octets.specs.Octets.{octetsFrom}
@@ -9,15 +8,6 @@ use Rattle.der.specs.Contents.{contentsOf}
 use Rattle.names.proofs.Laws.Tests.{behind, without}
 use Rattle.names.proofs.hosts.has_underscore.Statement.{statement}
 use Rattle.names.proofs.hosts.has_underscore.Tie as tie
-
-is-dns-name-requires : tie.Need-is-dns-name-requires
-is-dns-name-requires c κs = search needs
-
-minus-requires : tie.Need-minus-requires
-minus-requires c κs = search needs
-
-has-octet-requires : tie.Need-has-octet-requires
-has-octet-requires c κs = search needs
 
 returns : tie.Need-returns
 returns c =
@@ -36,4 +26,4 @@ returns-2 c =
 
 pub has-underscore-spec : {M : Type 1} → statement M
 has-underscore-spec =
-    tie.close (tie.spec is-dns-name-requires minus-requires has-octet-requires returns returns-2)
+    tie.close (tie.spec (λ c κs. tt) (λ c κs. tt) (λ c κs. tt) returns returns-2)

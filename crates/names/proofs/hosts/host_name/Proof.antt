@@ -1,14 +1,10 @@
 -- `names::host_name` meets its contract. Assumes nothing.
 use mathlib.Core.Path.{sym, ap, _∙_}
 use mathlib.Core.Bool.{Bool, cond}
-use borrow.Author.Needs.{needs}
 use Rattle.names.specs.declared.hosts.Host.the-variants.{Plain, Neither}
 use Rattle.names.proofs.Laws.Hosts.{host-long, host-short}
 use Rattle.names.proofs.hosts.host_name.Statement.{statement}
 use Rattle.names.proofs.hosts.host_name.Tie as tie
-
-labels-ok-requires : tie.Need-labels-ok-requires
-labels-ok-requires c κs = search needs
 
 returns : tie.Need-returns
 returns c =
@@ -30,4 +26,4 @@ returns-3 c =
     host-long (a .s .now) (a .body) (a .n) (c .if1 .left)
 
 pub host-name-spec : {M : Type 1} → statement M
-host-name-spec = tie.close (tie.spec labels-ok-requires returns returns-2 returns-3)
+host-name-spec = tie.close (tie.spec (λ c κs. tt) returns returns-2 returns-3)

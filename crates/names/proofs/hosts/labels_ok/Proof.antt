@@ -7,7 +7,6 @@ use native.Mathlib.Nat.{add-zero, sub-zero}
 use native.Mathlib.Omega.{arith}
 use lib.ListN.{length}
 use lib.Dec.{leb, eqb}
-use borrow.Author.Needs.{needs}
 use borrow.Author.Tests.{not-true, not-false}
 use Rattle.names.specs.Hosts.{labelsOf, labelsOk}
 use Rattle.names.specs.Scanning.{scanned}
@@ -28,12 +27,6 @@ loop-holds : tie.Need-loop-holds Inv-loop μ-loop
 loop-holds c =
     let a = c .before .args in
     (omega arith, simp (add-zero, sub-zero) (scan-labels (octetsFrom (a .s .now) (a .body) (a .n))))
-
-octet-past-requires : tie.Need-octet-past-requires Inv-loop μ-loop
-octet-past-requires c κs = search needs
-
-may-follow-requires : tie.Need-may-follow-requires Inv-loop μ-loop
-may-follow-requires c κs = search needs
 
 returns : tie.Need-returns Inv-loop μ-loop
 returns c =
@@ -68,9 +61,6 @@ loop-again c =
           (sym (c .size-after .ensures))),
     )
 
-may-end-requires : tie.Need-may-end-requires Inv-loop μ-loop
-may-end-requires c κs = search needs
-
 returns-2 : tie.Need-returns-2 Inv-loop μ-loop
 returns-2 c =
     let p = c .before .before in
@@ -86,12 +76,12 @@ labels-ok-spec =
     Inv-loop
     μ-loop
     loop-holds
-    octet-past-requires
-    may-follow-requires
+    (λ c κs. tt)
+    (λ c κs. tt)
     returns
     size-after-requires
     add-k
     loop-less
     loop-again
-    may-end-requires
+    (λ c κs. tt)
     returns-2)

@@ -2,7 +2,6 @@
 use mathlib.Core.Path.{sym, ap, _∙_}
 use mathlib.Core.Bool.{not}
 use Prim.Native.Nat.{ℕ}
-use borrow.Author.Needs.{needs}
 use Rattle.names.specs.Names.{isDnsName}
 use Rattle.names.specs.Hosts.{hostOf, isPlain}
 use Rattle.names.specs.declared.hosts.Host.{Host}
@@ -11,18 +10,6 @@ use Rattle.der.specs.Contents.{contentsOf}
 use Rattle.names.proofs.Laws.Tests.{behind, without}
 use Rattle.names.proofs.hosts.no_host.Statement.{statement}
 use Rattle.names.proofs.hosts.no_host.Tie as tie
-
-is-dns-name-requires : tie.Need-is-dns-name-requires
-is-dns-name-requires c κs = search needs
-
-minus-requires : tie.Need-minus-requires
-minus-requires c κs = search needs
-
-host-name-requires : tie.Need-host-name-requires
-host-name-requires c κs = search needs
-
-is-plain-requires : tie.Need-is-plain-requires
-is-plain-requires c κs = search needs
 
 returns : tie.Need-returns
 returns c =
@@ -44,9 +31,9 @@ pub no-host-spec : {M : Type 1} → statement M
 no-host-spec =
     tie.close
     (tie.spec
-    is-dns-name-requires
-    minus-requires
-    host-name-requires
-    is-plain-requires
+    (λ c κs. tt)
+    (λ c κs. tt)
+    (λ c κs. tt)
+    (λ c κs. tt)
     returns
     returns-2)

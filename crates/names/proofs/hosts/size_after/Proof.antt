@@ -4,9 +4,6 @@ use borrow.Author.Tests.{eq-eqb, ne-eqb}
 use Rattle.names.proofs.hosts.size_after.Statement.{statement}
 use Rattle.names.proofs.hosts.size_after.Tie as tie
 
-add-result : tie.Need-add-result
-add-result c = search needs
-
 returns : tie.Need-returns
 returns c = simp (eq-eqb _ _ (c .if1 .taken))
 
@@ -14,4 +11,4 @@ returns-2 : tie.Need-returns-2
 returns-2 c = simp (ne-eqb _ _ (c .if1 .left))
 
 pub size-after-spec : {M : Type 1} → statement M
-size-after-spec = tie.close (tie.spec add-result returns returns-2)
+size-after-spec = tie.close (tie.spec (λ c. search needs) returns returns-2)

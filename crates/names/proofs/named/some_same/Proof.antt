@@ -5,7 +5,6 @@ use mathlib.Core.Bool.{Bool, false, _||_}
 use Prim.Native.Nat.{_+_, _-_, _≤_}
 use native.Mathlib.Nat.{add-zero, sub-zero}
 use native.Mathlib.Omega.{arith}
-use borrow.Author.Needs.{needs}
 use borrow.Author.Tests.{not-true, not-false}
 use Rattle.names.specs.Names.{isNamed, someNamed}
 use Rattle.octets.specs.Octets.{octetsFrom}
@@ -36,12 +35,6 @@ abbrev μ-names : tie.MeasureT-names
 names-holds : tie.Need-names-holds Inv-loop μ-loop Inv-names μ-names
 names-holds c = (refl, refl)
 
-head-at-requires : tie.Need-head-at-requires Inv-loop μ-loop Inv-names μ-names
-head-at-requires c κs = search needs
-
-minus-requires : tie.Need-minus-requires Inv-loop μ-loop Inv-names μ-names
-minus-requires c κs = search needs
-
 names-less : tie.Need-names-less Inv-loop μ-loop Inv-names μ-names
 names-less c =
     let k = c .before .before .before in
@@ -71,18 +64,6 @@ loop-holds c =
           (a .end) (c .before .minus .result) (k .head-at .result) (k .before .names-test .taken) (k .head-at .ensures)
           (c .before .minus .ensures) (not-false _ (c .if1 .left))),
     )
-
-octet-past-requires : tie.Need-octet-past-requires Inv-loop μ-loop Inv-names μ-names
-octet-past-requires c κs = search needs
-
-lower-case-requires : tie.Need-lower-case-requires Inv-loop μ-loop Inv-names μ-names
-lower-case-requires c κs = search needs
-
-octet-past-requires-2 : tie.Need-octet-past-requires-2 Inv-loop μ-loop Inv-names μ-names
-octet-past-requires-2 c κs = search needs
-
-lower-case-requires-2 : tie.Need-lower-case-requires-2 Inv-loop μ-loop Inv-names μ-names
-lower-case-requires-2 c κs = search needs
 
 names-less-2 : tie.Need-names-less-2 Inv-loop μ-loop Inv-names μ-names
 names-less-2 c =
@@ -155,15 +136,15 @@ some-same-spec =
     Inv-names
     μ-names
     names-holds
-    head-at-requires
-    minus-requires
+    (λ c κs. tt)
+    (λ c κs. tt)
     names-less
     names-again
     loop-holds
-    octet-past-requires
-    lower-case-requires
-    octet-past-requires-2
-    lower-case-requires-2
+    (λ c κs. tt)
+    (λ c κs. tt)
+    (λ c κs. tt)
+    (λ c κs. tt)
     names-less-2
     names-again-2
     add-k

@@ -2,7 +2,6 @@
 use mathlib.Core.Path.{_≡_, refl, sym, _∙_}
 use Prim.Native.Nat.{_-_}
 use native.Mathlib.Omega.{arith}
-use borrow.Author.Needs.{needs}
 use Rattle.names.specs.Points.{httpFullName}
 use Rattle.der.specs.Header.{childrenOf}
 use Rattle.der.proofs.Laws.Any.{any-done, any-found, any-missed, forward}
@@ -18,12 +17,6 @@ abbrev μ-loop : tie.MeasureT-loop
 
 loop-holds : tie.Need-loop-holds Inv-loop μ-loop
 loop-holds c = refl
-
-head-at-requires : tie.Need-head-at-requires Inv-loop μ-loop
-head-at-requires c κs = search needs
-
-http-full-name-requires : tie.Need-http-full-name-requires Inv-loop μ-loop
-http-full-name-requires c κs = search needs
 
 returns : tie.Need-returns Inv-loop μ-loop
 returns c =
@@ -62,8 +55,8 @@ some-http-point-spec =
     Inv-loop
     μ-loop
     loop-holds
-    head-at-requires
-    http-full-name-requires
+    (λ c κs. tt)
+    (λ c κs. tt)
     returns
     loop-less
     loop-again

@@ -19,15 +19,6 @@ abbrev μ-loop : tie.MeasureT-loop
 loop-holds : tie.Need-loop-holds Inv-loop μ-loop
 loop-holds c = (refl, omega arith)
 
-octet-requires : tie.Need-octet-requires Inv-loop μ-loop
-octet-requires c κs = search needs
-
-push-requires : tie.Need-push-requires Inv-loop μ-loop
-push-requires c κs = search needs
-
-add-i : tie.Need-add-i Inv-loop μ-loop
-add-i c = search needs
-
 loop-less : tie.Need-loop-less Inv-loop μ-loop
 loop-less c = omega arith
 
@@ -53,9 +44,9 @@ small-spec =
     Inv-loop
     μ-loop
     loop-holds
-    octet-requires
-    push-requires
-    add-i
+    (λ c κs. tt)
+    (λ c κs. tt)
+    (λ c. search needs)
     loop-less
     loop-again
     returns)

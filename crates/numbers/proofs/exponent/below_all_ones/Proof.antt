@@ -1,24 +1,14 @@
 -- `numbers::exponent::below_all_ones` meets its contract. Assumes nothing.
 use native.Mathlib.Omega.{arith}
-use borrow.Author.Needs.{needs}
 use Rattle.numbers.proofs.Laws.Exponent.{max-short, max-even, max-long}
 use Rattle.numbers.proofs.exponent.below_all_ones.Statement.{statement}
 use Rattle.numbers.proofs.exponent.below_all_ones.Tie as tie
-
-lead-requires : tie.Need-lead-requires
-lead-requires c κs = search needs
-
-minus-requires : tie.Need-minus-requires
-minus-requires c κs = search needs
 
 returns : tie.Need-returns
 returns c =
     let p = c .before .before in
     let a = p .before .before .args in
     max-short (a .s .now) (a .body) (a .end) (p .lead .result) (λ i. p .before .shared-slice-known .given i .fits) (p .lead .ensures) 32 (omega arith)
-
-all-ones-requires : tie.Need-all-ones-requires
-all-ones-requires c κs = search needs
 
 returns-2 : tie.Need-returns-2
 returns-2 c =
@@ -35,4 +25,4 @@ returns-3 c =
 
 pub below-all-ones-spec : {M : Type 1} → statement M
 below-all-ones-spec =
-    tie.close (tie.spec lead-requires minus-requires returns all-ones-requires returns-2 returns-3)
+    tie.close (tie.spec (λ c κs. tt) (λ c κs. tt) returns (λ c κs. tt) returns-2 returns-3)

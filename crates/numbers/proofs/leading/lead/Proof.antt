@@ -17,18 +17,12 @@ abbrev μ-loop : tie.MeasureT-loop
 loop-holds : tie.Need-loop-holds Inv-loop μ-loop
 loop-holds c = refl
 
-octet-requires : tie.Need-octet-requires Inv-loop μ-loop
-octet-requires c κs = search needs
-
 returns : tie.Need-returns Inv-loop μ-loop
 returns c =
     let p = c .before .before .before in
     let a = p .before .before .args in
     sym (p .loop .inv ∙ lead-stop (a .s .now) (p .loop .i) (a .end) (c .before .octet .result) (c .before .before .loop-test .taken)
     (c .before .octet .ensures) (c .if1 .taken))
-
-add-i : tie.Need-add-i Inv-loop μ-loop
-add-i c = search needs
 
 loop-less : tie.Need-loop-less Inv-loop μ-loop
 loop-less c = omega arith
@@ -52,9 +46,9 @@ lead-spec =
     Inv-loop
     μ-loop
     loop-holds
-    octet-requires
+    (λ c κs. tt)
     returns
-    add-i
+    (λ c. search needs)
     loop-less
     loop-again
     returns-2)

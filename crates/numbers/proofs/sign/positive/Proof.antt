@@ -1,14 +1,7 @@
 -- `numbers::sign::positive` meets its contract. Assumes nothing.
-use borrow.Author.Needs.{needs}
 use Rattle.numbers.proofs.Laws.Sign.{positive-is}
 use Rattle.numbers.proofs.sign.positive.Statement.{statement}
 use Rattle.numbers.proofs.sign.positive.Tie as tie
-
-lead-requires : tie.Need-lead-requires
-lead-requires c κs = search needs
-
-octet-requires : tie.Need-octet-requires
-octet-requires c κs = search needs
 
 returns : tie.Need-returns
 returns c =
@@ -17,4 +10,4 @@ returns c =
     (λ i. c .before .before .shared-slice-known .given i .fits) (c .before .lead .ensures))
 
 pub positive-spec : {M : Type 1} → statement M
-positive-spec = tie.close (tie.spec lead-requires octet-requires returns)
+positive-spec = tie.close (tie.spec (λ c κs. tt) (λ c κs. tt) returns)

@@ -5,32 +5,11 @@ use Rattle.numbers.proofs.Laws.Size.{below-short, below-even, below-lon
 use Rattle.numbers.proofs.size.below.Statement.{statement}
 use Rattle.numbers.proofs.size.below.Tie as tie
 
-lead-requires : tie.Need-lead-requires
-lead-requires c κs = search needs
-
-minus-requires : tie.Need-minus-requires
-minus-requires c κs = search needs
-
-cast-q : tie.Need-cast-q
-cast-q c = search needs
-
 returns : tie.Need-returns
 returns c =
     let p = c .before .before in
     let a = p .before .before .args in
     below-short (a .s .now) (a .body) (a .end) (p .lead .result) (a .k) (λ i. p .before .shared-slice-known .given i .fits) (p .lead .ensures) (omega arith)
-
-add-if2 : tie.Need-add-if2
-add-if2 c = search needs
-
-octet-requires : tie.Need-octet-requires
-octet-requires c κs = search needs
-
-cast-result : tie.Need-cast-result
-cast-result c = search needs
-
-power-requires : tie.Need-power-requires
-power-requires c κs = search needs
 
 returns-2 : tie.Need-returns-2
 returns-2 c =
@@ -50,13 +29,13 @@ pub below-spec : {M : Type 1} → statement M
 below-spec =
     tie.close
     (tie.spec
-    lead-requires
-    minus-requires
-    cast-q
+    (λ c κs. tt)
+    (λ c κs. tt)
+    (λ c. search needs)
     returns
-    add-if2
-    octet-requires
-    cast-result
-    power-requires
+    (λ c. search needs)
+    (λ c κs. tt)
+    (λ c. search needs)
+    (λ c κs. search needs)
     returns-2
     returns-3)

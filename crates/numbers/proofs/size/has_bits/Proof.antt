@@ -6,15 +6,6 @@ use Rattle.numbers.proofs.Laws.Size.{bits-some, bits-none}
 use Rattle.numbers.proofs.size.has_bits.Statement.{statement}
 use Rattle.numbers.proofs.size.has_bits.Tie as tie
 
-sub-below : tie.Need-sub-below
-sub-below c = search needs
-
-below-requires : tie.Need-below-requires
-below-requires c κs = search needs
-
-below-requires-2 : tie.Need-below-requires-2
-below-requires-2 c κs = search needs
-
 returns : tie.Need-returns
 returns c =
     let a = c .before .before .before .before .args in
@@ -26,4 +17,4 @@ returns-2 c =
     bits-none (a .k) (number (a .s .now) (a .body) (a .end)) (omega arith)
 
 pub has-bits-spec : {M : Type 1} → statement M
-has-bits-spec = tie.close (tie.spec sub-below below-requires below-requires-2 returns returns-2)
+has-bits-spec = tie.close (tie.spec (λ c. search needs) (λ c κs. tt) (λ c κs. tt) returns returns-2)

@@ -8,11 +8,8 @@ use borrow.Author.Needs.{needs}
 use Rattle.numbers.proofs.size.power.Statement.{statement}
 use Rattle.numbers.proofs.size.power.Tie as tie
 
-shl-result : tie.Need-shl-result
-shl-result c = search needs
-
 returns : tie.Need-returns
 returns c = ap (λ (m : ℕ). m % 65536) (one-mul (2 ^ c .args .e)) ∙ mod-eq-of-lt (lt-of-lt-of-le (pow-lt (c .pre)) (pow-mono {i = 8} {j = 16} (omega arith)))
 
 pub power-spec : {M : Type 1} → statement M
-power-spec = tie.close (tie.spec shl-result returns)
+power-spec = tie.close (tie.spec (λ c. search needs) returns)

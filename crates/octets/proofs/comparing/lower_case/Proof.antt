@@ -7,9 +7,6 @@ use Rattle.octets.proofs.comparing.lower_case.Tie as tie
 returns : tie.Need-returns
 returns c = simp (lt-ltb _ _ (c .if1 .taken))
 
-add-result : tie.Need-add-result
-add-result c = search needs
-
 returns-2 : tie.Need-returns-2
 returns-2 c = simp (le-ltb _ _ (c .before .if1 .left), lt-ltb _ _ (c .if2 .taken))
 
@@ -17,4 +14,4 @@ returns-3 : tie.Need-returns-3
 returns-3 c = simp (le-ltb _ _ (c .before .if1 .left), le-ltb _ _ (c .if2 .left))
 
 pub lower-case-spec : {M : Type 1} → statement M
-lower-case-spec = tie.close (tie.spec returns add-result returns-2 returns-3)
+lower-case-spec = tie.close (tie.spec returns (λ c. search needs) returns-2 returns-3)

@@ -4,7 +4,6 @@ use mathlib.Core.Path.{_≡_, ap, _∙_}
 use Prim.Native.Nat.{_+_, _-_, _<_, _≤_, min}
 use native.Mathlib.Nat.{add-zero, sub-zero}
 use native.Mathlib.Omega.{arith}
-use borrow.Author.Needs.{needs}
 use Rattle.octets.specs.Octets.{octetAt, octetsFrom}
 use Rattle.octets.specs.Numbers.{numberFrom, numberOf, largest}
 use Rattle.octets.proofs.Laws.Numbers.{number-done, number-next}
@@ -19,23 +18,11 @@ Inv-loop s at skip n from count value₀ k₀ value k =
 abbrev μ-loop : tie.MeasureT-loop
 μ-loop s at skip n from count value₀ k₀ value k = n - k
 
-wide-requires : tie.Need-wide-requires Inv-loop μ-loop
-wide-requires c κs = search needs
-
-wide-requires-2 : tie.Need-wide-requires-2 Inv-loop μ-loop
-wide-requires-2 c κs = search needs
-
 loop-holds : tie.Need-loop-holds Inv-loop μ-loop
 loop-holds c = (omega arith, simp (add-zero, sub-zero))
 
 add-octet-past : tie.Need-add-octet-past Inv-loop μ-loop
 add-octet-past c = omega (arith, c .before .before .wide2 .ensures .1, c .before .before .before .wide .ensures .1)
-
-octet-past-requires : tie.Need-octet-past-requires Inv-loop μ-loop
-octet-past-requires c κs = search needs
-
-written-on-requires : tie.Need-written-on-requires Inv-loop μ-loop
-written-on-requires c κs = search needs
 
 add-k : tie.Need-add-k Inv-loop μ-loop
 add-k c = omega arith
@@ -71,12 +58,12 @@ number-spec =
     (tie.spec
     Inv-loop
     μ-loop
-    wide-requires
-    wide-requires-2
+    (λ c κs. tt)
+    (λ c κs. tt)
     loop-holds
     add-octet-past
-    octet-past-requires
-    written-on-requires
+    (λ c κs. tt)
+    (λ c κs. tt)
     add-k
     loop-less
     loop-again

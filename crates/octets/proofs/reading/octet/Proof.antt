@@ -5,14 +5,8 @@ use Rattle.octets.proofs.Laws.Octets.{past}
 use Rattle.octets.proofs.reading.octet.Statement.{statement}
 use Rattle.octets.proofs.reading.octet.Tie as tie
 
-shared-slice-read-result : tie.Need-shared-slice-read-result
-shared-slice-read-result c = search needs
-
-returns : tie.Need-returns
-returns c = search needs
-
 returns-2 : tie.Need-returns-2
 returns-2 c = let a = c .before .args in past (a .s .now) (a .i) (omega arith)
 
 pub octet-spec : {M : Type 1} → statement M
-octet-spec = tie.close (tie.spec shared-slice-read-result returns returns-2)
+octet-spec = tie.close (tie.spec (λ c. search needs) (λ c. search needs) returns-2)

@@ -6,12 +6,6 @@ use Rattle.primes.proofs.Laws.Primes.{table-right}
 use Rattle.primes.proofs.dividing.divisible_by_none.Statement.{statement}
 use Rattle.primes.proofs.dividing.divisible_by_none.Tie as tie
 
-slice-aggregate-none-divides : tie.Need-slice-aggregate-none-divides
-slice-aggregate-none-divides c = search needs
-
-slice-aggregate-none-divides-2 : tie.Need-slice-aggregate-none-divides-2
-slice-aggregate-none-divides-2 c = search needs
-
 none-divides-requires : tie.Need-none-divides-requires
 unfolding rowsOk
 none-divides-requires c κs = refl
@@ -23,7 +17,7 @@ pub divisible-by-none-spec : {M : Type 1} → statement M
 divisible-by-none-spec =
     tie.close
     (tie.spec
-    slice-aggregate-none-divides
-    slice-aggregate-none-divides-2
+    (λ c. search needs)
+    (λ c. search needs)
     none-divides-requires
     returns)

@@ -45,12 +45,6 @@ renew-requires c κs =
     let w = row (g .args .primes .now) (g .args .products .now) (g .pre) (l .loop .k) (c .before .loop-test .taken) .1 in
     (w .least, w .most, l .loop .inv .1)
 
-mul-if1 : tie.Need-mul-if1 Inv-loop μ-loop
-mul-if1 c = search needs
-
-shared-slice-read-if1 : tie.Need-shared-slice-read-if1 Inv-loop μ-loop
-shared-slice-read-if1 c = search needs
-
 cast-if1 : tie.Need-cast-if1 Inv-loop μ-loop
 cast-if1 c = record { fits = omega (arith, c .shared-slice-known5 .given (c .before .before .before .before .loop .k)) }
 
@@ -70,9 +64,6 @@ returns c =
     let a = g .args in
     sym (l .loop .inv .0 ∙ free-bad (a .primes .now) (a .products .now) (g .pre) (l .loop .k) (number (a .s .now) (a .body) (a .end))
     (r .renew .result) (t .loop-test .taken) (r .renew .ensures) (c .if1 .taken))
-
-add-k : tie.Need-add-k Inv-loop μ-loop
-add-k c = search needs
 
 loop-less : tie.Need-loop-less Inv-loop μ-loop
 loop-less c = omega arith
@@ -106,12 +97,12 @@ none-divides-spec =
     shared-slice-read-m
     cast-m
     renew-requires
-    mul-if1
-    shared-slice-read-if1
+    (λ c. search needs)
+    (λ c. search needs)
     cast-if1
     rem-if1
     returns
-    add-k
+    (λ c. search needs)
     loop-less
     loop-again
     returns-2)

@@ -11,11 +11,5 @@ returns c =
     let a = c .before .before .args in
     c .before .before .pre .2 ∙ ap (λ (x : ℕ). number (a .s .now) (a .body) (a .end) % x) (sym (c .if1 .taken))
 
-residue-requires : tie.Need-residue-requires
-residue-requires c κs = search needs
-
-returns-2 : tie.Need-returns-2
-returns-2 c = search needs
-
 pub renew-spec : {M : Type 1} → statement M
-renew-spec = tie.close (tie.spec returns residue-requires returns-2)
+renew-spec = tie.close (tie.spec returns (λ c κs. search needs) (λ c. search needs))

@@ -2,7 +2,6 @@
 use mathlib.Core.Path.{_≡_, sym, ap, _∙_}
 use Prim.Native.Nat.{ℕ, _+_, _-_, _*_, _%_, _^_}
 use native.Mathlib.Omega.{arith}
-use borrow.Author.Needs.{needs}
 use Rattle.octets.specs.Octets.{octetsFrom}
 use Rattle.octets.specs.Numbers.{numberFrom}
 use Rattle.numbers.specs.Numbers.{number}
@@ -28,14 +27,8 @@ mul-b c =
 rem-b : tie.Need-rem-b Inv-loop μ-loop
 rem-b c = c .before .pre .0
 
-minus-requires : tie.Need-minus-requires Inv-loop μ-loop
-minus-requires c κs = search needs
-
 add-i : tie.Need-add-i Inv-loop μ-loop
 add-i c = record { fits = omega arith }
-
-small-requires : tie.Need-small-requires Inv-loop μ-loop
-small-requires c κs = search needs
 
 loop-holds : tie.Need-loop-holds Inv-loop μ-loop
 loop-holds c =
@@ -43,9 +36,6 @@ loop-holds c =
     start (a .s .now) (a .body) (a .end) (a .body + c .before .minus .result % 4) (c .small .result) (a .m)
     (λ i. c .before .before .shared-slice-known .given i .fits) (ap (λ (x : ℕ). a .body + x % 4) (c .before .minus .ensures))
     (c .small .ensures)
-
-word-requires : tie.Need-word-requires Inv-loop μ-loop
-word-requires c κs = search needs
 
 step-requires : tie.Need-step-requires Inv-loop μ-loop
 step-requires c κs =
@@ -85,11 +75,11 @@ residue-spec =
     rem-a
     mul-b
     rem-b
-    minus-requires
+    (λ c κs. tt)
     add-i
-    small-requires
+    (λ c κs. tt)
     loop-holds
-    word-requires
+    (λ c κs. tt)
     step-requires
     add-i-2
     loop-less

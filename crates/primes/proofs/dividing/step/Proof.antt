@@ -17,8 +17,5 @@ add-result c = let p = step-parts (c .args .r) (c .args .a) (c .args .b) (omega 
 add-result-2 : tie.Need-add-result-2
 add-result-2 c = let p = step-parts (c .args .r) (c .args .a) (c .args .b) (omega arith) (c .pre .0) (c .pre .1) in record { fits = omega arith }
 
-returns : tie.Need-returns
-returns c = search needs
-
 pub step-spec : {M : Type 1} → statement M
-step-spec = tie.close (tie.spec mul-result mul-result-2 add-result add-result-2 returns)
+step-spec = tie.close (tie.spec mul-result mul-result-2 add-result add-result-2 (λ c. search needs))

@@ -1,19 +1,9 @@
 -- `profiles::extensions::mark_of` meets its contract. Assumes nothing.
-use borrow.Author.Needs.{needs}
 use Rattle.profiles.proofs.extensions.mark_of.Statement.{statement}
 use Rattle.profiles.proofs.extensions.mark_of.Tie as tie
 
-is-server-requires : tie.Need-is-server-requires
-is-server-requires c κs = search needs
-
-server-mark-requires : tie.Need-server-mark-requires
-server-mark-requires c κs = search needs
-
 returns : tie.Need-returns
 returns c = rw (c .before .before .before .if1 .taken, ← c .before .before .is-server .ensures, c .before .if2 .taken) (c .server-mark .ensures)
-
-responder-mark-requires : tie.Need-responder-mark-requires
-responder-mark-requires c κs = search needs
 
 returns-2 : tie.Need-returns-2
 returns-2 c = rw (c .before .before .before .if1 .taken, ← c .before .before .is-server .ensures, c .before .if2 .left) (c .responder-mark .ensures)
@@ -25,9 +15,9 @@ pub mark-of-spec : {M : Type 1} → statement M
 mark-of-spec =
     tie.close
     (tie.spec
-    is-server-requires
-    server-mark-requires
+    (λ c κs. tt)
+    (λ c κs. tt)
     returns
-    responder-mark-requires
+    (λ c κs. tt)
     returns-2
     returns-3)

@@ -5,11 +5,8 @@ use Rattle.reader.proofs.Laws.Places.{block-total}
 use Rattle.reader.proofs.counting.block_count.Statement.{statement}
 use Rattle.reader.proofs.counting.block_count.Tie as tie
 
-add-result : tie.Need-add-result
-add-result c = search needs
-
 returns : tie.Need-returns
 returns c = sym (block-total (c .args .deck .now))
 
 pub block-count-spec : {M : Type 1} → statement M
-block-count-spec = tie.close (tie.spec add-result returns)
+block-count-spec = tie.close (tie.spec (λ c. search needs) returns)

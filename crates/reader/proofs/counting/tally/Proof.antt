@@ -45,17 +45,8 @@ loop-holds : tie.Need-loop-holds Inv-loop μ-loop
 unfolding events
 loop-holds c = (omega arith, omega arith, omega arith, omega arith)
 
-find-requires : tie.Need-find-requires Inv-loop μ-loop
-find-requires c κs = search needs
-
-enum-known-found : tie.Need-enum-known-found Inv-loop μ-loop
-enum-known-found c = search needs
-
 add-records : tie.Need-add-records Inv-loop μ-loop
 add-records c = omega (arith, went (c .before .before .before) _ (c .before .found .given .1))
-
-parts-of-requires : tie.Need-parts-of-requires Inv-loop μ-loop
-parts-of-requires c κs = search needs
 
 add-position : tie.Need-add-position Inv-loop μ-loop
 add-position c = omega (arith, c .parts-of .ensures, went (c .before .before .before .before) _ (c .before .before .found .given .1))
@@ -68,9 +59,6 @@ loop-again c =
     rw (c .parts-of .ensures)
     (omega (arith, went (c .before .before .before .before) _ (c .before .before .found .given .1)))
 
-enum-told : tie.Need-enum-told Inv-loop μ-loop
-enum-told c = search needs
-
 add-lost : tie.Need-add-lost Inv-loop μ-loop
 add-lost c = omega (arith, went (c .before .before) _ (c .enum-told .given .1))
 
@@ -82,9 +70,6 @@ loop-less-2 c = omega (arith, went (c .before .before) _ (c .enum-told .given .1
 
 loop-again-2 : tie.Need-loop-again-2 Inv-loop μ-loop
 loop-again-2 c = omega (arith, went (c .before .before) _ (c .enum-told .given .1))
-
-enum-told-2 : tie.Need-enum-told-2 Inv-loop μ-loop
-enum-told-2 c = search needs
 
 returns : tie.Need-returns Inv-loop μ-loop
 unfolding tallyOf counts
@@ -104,17 +89,17 @@ tally-spec =
     Inv-loop
     μ-loop
     loop-holds
-    find-requires
-    enum-known-found
+    (λ c κs. tt)
+    (λ c. search needs)
     add-records
-    parts-of-requires
+    (λ c κs. tt)
     add-position
     loop-less
     loop-again
-    enum-told
+    (λ c. search needs)
     add-lost
     add-position-2
     loop-less-2
     loop-again-2
-    enum-told-2
+    (λ c. search needs)
     returns)

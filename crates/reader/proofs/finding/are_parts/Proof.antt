@@ -5,7 +5,6 @@ use mathlib.Core.List.{List}
 use Prim.Native.Nat.{ℕ, _+_, _*_, _-_, _≤_}
 use native.Mathlib.Omega.{arith}
 use lib.ListN.{length}
-use borrow.Author.Needs.{needs}
 use borrow.Author.Tests.{not-true, not-false}
 use Rattle.reader.specs.Runs.{blockAt, from, isPart, areParts}
 use Rattle.blocks.proofs.Laws.Logic.{and-not-left, and-passed}
@@ -31,12 +30,6 @@ loop-holds c =
 
 add-block-at : tie.Need-add-block-at Inv-loop μ-loop
 add-block-at c = omega arith
-
-block-at-requires : tie.Need-block-at-requires Inv-loop μ-loop
-block-at-requires c κs = search needs
-
-is-part-requires : tie.Need-is-part-requires Inv-loop μ-loop
-is-part-requires c κs = search needs
 
 returns : tie.Need-returns Inv-loop μ-loop
 returns c =
@@ -82,8 +75,8 @@ are-parts-spec =
     μ-loop
     loop-holds
     add-block-at
-    block-at-requires
-    is-part-requires
+    (λ c κs. tt)
+    (λ c κs. tt)
     returns
     add-j
     loop-less

@@ -9,47 +9,17 @@ use borrow.Author.Needs.{needs}
 use Rattle.reader.proofs.finding.block_at.Statement.{statement}
 use Rattle.reader.proofs.finding.block_at.Tie as tie
 
-slice-aggregate-result : tie.Need-slice-aggregate-result
-slice-aggregate-result c = search needs
-
 returns : tie.Need-returns
 returns c =
     let d = c .before .before .args .deck .now in
     let at = 512 * c .before .before .args .position in
     rw (drop-of-length-le d {i = at} (omega arith))
 
-mul-at : tie.Need-mul-at
-mul-at c = search needs
-
-sub-if2 : tie.Need-sub-if2
-sub-if2 c = search needs
-
-sub-result : tie.Need-sub-result
-sub-result c = search needs
-
-part-result-start : tie.Need-part-result-start
-part-result-start c = search needs
-
-part-result-end : tie.Need-part-result-end
-part-result-end c = search needs
-
 returns-2 : tie.Need-returns-2
 returns-2 c =
     let d = c .before .before .before .args .deck .now in
     let at = 512 * c .before .before .before .args .position in
     take-all (length d - at) (drop at d) (simp length-drop (omega arith)) ∙ sym (take-all 512 (drop at d) (simp length-drop (omega arith)))
-
-add-end : tie.Need-add-end
-add-end c = search needs
-
-sub-result-2 : tie.Need-sub-result-2
-sub-result-2 c = search needs
-
-part-result-start-2 : tie.Need-part-result-start-2
-part-result-start-2 c = search needs
-
-part-result-end-2 : tie.Need-part-result-end-2
-part-result-end-2 c = search needs
 
 returns-3 : tie.Need-returns-3
 returns-3 c =
@@ -62,16 +32,16 @@ pub block-at-spec : {M : Type 1} → statement M
 block-at-spec =
     tie.close
     (tie.spec
-    slice-aggregate-result
+    (λ c. search needs)
     returns
-    mul-at
-    sub-if2
-    sub-result
-    part-result-start
-    part-result-end
+    (λ c. search needs)
+    (λ c. search needs)
+    (λ c. search needs)
+    (λ c. search needs)
+    (λ c. search needs)
     returns-2
-    add-end
-    sub-result-2
-    part-result-start-2
-    part-result-end-2
+    (λ c. search needs)
+    (λ c. search needs)
+    (λ c. search needs)
+    (λ c. search needs)
     returns-3)

@@ -5,13 +5,12 @@ use mathlib.Core.List.{List}
 use Prim.Native.Nat.{ℕ, _*_, _<_}
 use native.Mathlib.Omega.{arith}
 use lib.ListN.{length}
-use borrow.Author.Needs.{needs}
-use Rattle.blocks.specs.Block.{sound, numberOf, lengthOf}
 use Rattle.reader.specs.Runs.{blockAt}
 use Rattle.reader.specs.Events.{lossIf, lossOf}
 use Rattle.reader.specs.Finding.{foundAt}
 use Rattle.reader.specs.declared.finding.Loss.{Loss}
 use Rattle.reader.specs.declared.finding.Found.the-variants.{Record, Lost}
+use Rattle.blocks.specs.Block.{sound, numberOf, lengthOf}
 use Rattle.reader.proofs.Laws.Found.{found-none, found-record, found-lost, block-inside, block-none, loss-short, loss-whole}
 use Rattle.reader.proofs.finding.find.Statement.{statement}
 use Rattle.reader.proofs.finding.find.Tie as tie
@@ -47,9 +46,6 @@ whole c =
     ∙ ap (λ (b : List ℕ). lossIf false (sound b)) (sym (s .block-at .ensures))
     ∙ ap (lossIf false) (sym (c .is-sound .ensures))
 
-block-at-requires : tie.Need-block-at-requires
-block-at-requires c κs = search needs
-
 returns : tie.Need-returns
 returns c =
     sym (found-none (deck (c .before)) (position (c .before))
@@ -57,12 +53,6 @@ returns c =
 
 is-start-requires : tie.Need-is-start-requires
 is-start-requires c κs = inside c
-
-number-of-requires : tie.Need-number-of-requires
-number-of-requires c κs = search needs
-
-length-of-requires : tie.Need-length-of-requires
-length-of-requires c κs = search needs
 
 returns-2 : tie.Need-returns-2
 returns-2 c =
@@ -78,9 +68,6 @@ returns-3 c =
     let s : tie.After-block-at = seen (c .before) in
     sym (lost (c .before) _ (loss-short (block s) (omega (arith, c .if3 .taken, ap length (s .block-at .ensures)))))
 
-is-sound-requires : tie.Need-is-sound-requires
-is-sound-requires c κs = search needs
-
 returns-4 : tie.Need-returns-4
 returns-4 c = sym (lost (c .before .before .before) _ (whole (c .before) ∙ ap (lossIf false) (c .if4 .taken)))
 
@@ -91,13 +78,13 @@ pub find-spec : {M : Type 1} → statement M
 find-spec =
     tie.close
     (tie.spec
-    block-at-requires
+    (λ c κs. tt)
     returns
     is-start-requires
-    number-of-requires
-    length-of-requires
+    (λ c κs. tt)
+    (λ c κs. tt)
     returns-2
     returns-3
-    is-sound-requires
+    (λ c κs. tt)
     returns-4
     returns-5)

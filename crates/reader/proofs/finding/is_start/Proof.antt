@@ -9,10 +9,10 @@ use lib.Dec.{eqb, leb}
 use lib.ListN.{drop}
 use borrow.Author.Needs.{needs}
 use borrow.Author.Tests.{not-true, not-false}
+use Rattle.reader.specs.Runs.{from, areParts, dataFrom, isWhole, run, starts}
 use Rattle.octets.specs.Numbers.{pairAt}
 use Rattle.blocks.specs.Block.{numberOf, lengthOf, dataOf}
 use Rattle.blocks.specs.Record.{isRecordLength, parts, zeros}
-use Rattle.reader.specs.Runs.{from, areParts, dataFrom, isWhole, run, starts}
 use Rattle.reader.proofs.Laws.Starts.{starts-by, bad-head, good-length, bad-parts, good-parts, whole-by}
 use Rattle.reader.proofs.finding.is_start.Statement.{statement}
 use Rattle.reader.proofs.finding.is_start.Tie as tie
@@ -64,29 +64,11 @@ module _ (c : tie.After-are-parts) where
   counted : (0 < k) × (502 * (k - 1) ≤ n here)
   counted = omega (arith, sized (c .before .before), c .before .parts-of .ensures)
 
-block-at-requires : tie.Need-block-at-requires
-block-at-requires c κs = search needs
-
-number-of-requires : tie.Need-number-of-requires
-number-of-requires c κs = search needs
-
-length-of-requires : tie.Need-length-of-requires
-length-of-requires c κs = search needs
-
-is-record-length-requires : tie.Need-is-record-length-requires
-is-record-length-requires c κs = search needs
-
 returns : tie.Need-returns
 returns c =
     sym (by (c .before)
     ∙ bad-head (number (c .before)) (n (c .before)) (from (deck (c .before)) (position (c .before)))
     (rw (← c .before .is-record-length .ensures) (c .if1 .taken)))
-
-parts-of-requires : tie.Need-parts-of-requires
-parts-of-requires c κs = search needs
-
-are-parts-requires : tie.Need-are-parts-requires
-are-parts-requires c κs = search needs
 
 returns-2 : tie.Need-returns-2
 returns-2 c =
@@ -97,26 +79,8 @@ returns-2 c =
 sub-block-at : tie.Need-sub-block-at
 sub-block-at c = counted (c .before) .0
 
-add-block-at : tie.Need-add-block-at
-add-block-at c = search needs
-
-block-at-requires-2 : tie.Need-block-at-requires-2
-block-at-requires-2 c κs = search needs
-
 sub-is-filled : tie.Need-sub-is-filled
 sub-is-filled c = counted (c .before .before) .0
-
-mul-is-filled : tie.Need-mul-is-filled
-mul-is-filled c = search needs
-
-sub-is-filled-2 : tie.Need-sub-is-filled-2
-sub-is-filled-2 c = search needs
-
-is-filled-requires : tie.Need-is-filled-requires
-is-filled-requires c κs = search needs
-
-pair-requires : tie.Need-pair-requires
-pair-requires c κs = search needs
 
 sub-result : tie.Need-sub-result
 sub-result c = omega (arith, sized (c .before .before .before .before .before .before))
@@ -138,21 +102,21 @@ pub is-start-spec : {M : Type 1} → statement M
 is-start-spec =
     tie.close
     (tie.spec
-    block-at-requires
-    number-of-requires
-    length-of-requires
-    is-record-length-requires
+    (λ c κs. tt)
+    (λ c κs. tt)
+    (λ c κs. tt)
+    (λ c κs. tt)
     returns
-    parts-of-requires
-    are-parts-requires
+    (λ c κs. tt)
+    (λ c κs. search needs)
     returns-2
     sub-block-at
-    add-block-at
-    block-at-requires-2
+    (λ c. search needs)
+    (λ c κs. tt)
     sub-is-filled
-    mul-is-filled
-    sub-is-filled-2
-    is-filled-requires
-    pair-requires
+    (λ c. search needs)
+    (λ c. search needs)
+    (λ c κs. tt)
+    (λ c κs. tt)
     sub-result
     returns-3)

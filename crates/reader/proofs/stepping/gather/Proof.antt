@@ -5,7 +5,6 @@ use Prim.Native.Nat.{_*_, _-_, _≤_}
 use native.Mathlib.Numerals.{add-one}
 use native.Mathlib.Omega.{arith}
 use lib.ListN.{length, drop}
-use borrow.Author.Needs.{needs}
 use Rattle.reader.specs.Runs.{from, dataFrom}
 use Rattle.reader.proofs.Laws.Gathering.{gathered, gathered-long}
 use Rattle.reader.proofs.stepping.gather.Statement.{statement}
@@ -31,9 +30,6 @@ add-copy-2 c = omega arith
 
 mul-copy-2 : tie.Need-mul-copy-2 Inv-loop μ-loop
 mul-copy-2 c = omega arith
-
-copy-requires : tie.Need-copy-requires Inv-loop μ-loop
-copy-requires c κs = search needs
 
 add-j : tie.Need-add-j Inv-loop μ-loop
 add-j c = omega arith
@@ -73,7 +69,7 @@ gather-spec =
     mul-copy
     add-copy-2
     mul-copy-2
-    copy-requires
+    (λ c κs. tt)
     add-j
     loop-less
     loop-again

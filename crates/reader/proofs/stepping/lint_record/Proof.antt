@@ -12,20 +12,11 @@ use Rattle.reader.proofs.stepping.lint_record.Tie as tie
 long : length {A = ℕ} (replicate 16566 0) ≡ 16566
 long = length-replicate {A = ℕ} 16566 0
 
-parts-of-requires : tie.Need-parts-of-requires
-parts-of-requires c κs = search needs
-
-slice-aggregate-gather : tie.Need-slice-aggregate-gather
-slice-aggregate-gather c = search needs
-
 gather-requires : tie.Need-gather-requires
 gather-requires c κs =
     let parts = c .before in
     let start = start-of _ _ _ _ (parts .before .before .before .pre) in
     (rw (parts .parts-of .ensures) (start .whole), rw (long, parts .parts-of .ensures) (omega (arith, start .most)))
-
-slice-aggregate-lint-desk : tie.Need-slice-aggregate-lint-desk
-slice-aggregate-lint-desk c = search needs
 
 lint-desk-requires : tie.Need-lint-desk-requires
 lint-desk-requires c κs =
@@ -35,9 +26,6 @@ lint-desk-requires c κs =
       desk-cut _ _ _ _ _ _ _ start (parts .parts-of .ensures) long (call .gather .ensures),
       desk-enough _ _ _ _ _ _ _ start (parts .parts-of .ensures) long (call .gather .ensures),
     )
-
-same-length : tie.Need-same-length
-same-length c = search needs
 
 returns : tie.Need-returns
 returns c =
@@ -51,10 +39,10 @@ pub lint-record-spec : {M : Type 1} → statement M
 lint-record-spec =
     tie.close
     (tie.spec
-    parts-of-requires
-    slice-aggregate-gather
+    (λ c κs. tt)
+    (λ c. search needs)
     gather-requires
-    slice-aggregate-lint-desk
+    (λ c. search needs)
     lint-desk-requires
-    same-length
+    (λ c. search needs)
     returns)

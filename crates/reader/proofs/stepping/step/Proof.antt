@@ -6,25 +6,10 @@ use Rattle.reader.proofs.Laws.Stepping.{step-record, step-lost, step-en
 use Rattle.reader.proofs.stepping.step.Statement.{statement}
 use Rattle.reader.proofs.stepping.step.Tie as tie
 
-find-requires : tie.Need-find-requires
-find-requires c κs = search needs
-
-enum-known-found : tie.Need-enum-known-found
-enum-known-found c = search needs
-
 lint-record-requires : tie.Need-lint-record-requires
 lint-record-requires c κs =
     let told = c .before .before in
     sym (told .before .before .find .ensures) ∙ told .found .given .1
-
-enum-known-found-2 : tie.Need-enum-known-found-2
-enum-known-found-2 c = search needs
-
-enum-told : tie.Need-enum-told
-enum-told c = search needs
-
-same-length : tie.Need-same-length
-same-length c = search needs
 
 returns : tie.Need-returns
 returns c =
@@ -49,12 +34,12 @@ pub step-spec : {M : Type 1} → statement M
 step-spec =
     tie.close
     (tie.spec
-    find-requires
-    enum-known-found
+    (λ c κs. tt)
+    (λ c. search needs)
     lint-record-requires
-    enum-known-found-2
-    enum-told
-    same-length
+    (λ c. search needs)
+    (λ c. search needs)
+    (λ c. search needs)
     returns
     returns-2
     returns-3)

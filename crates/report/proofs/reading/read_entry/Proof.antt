@@ -7,24 +7,6 @@ use Rattle.report.proofs.reading.read_entry.Tie as tie
 returns : tie.Need-returns
 returns c = let a = c .before .before .args in entry-past (a .report .now) (a .k) (c .if1 .taken)
 
-mul-at : tie.Need-mul-at
-mul-at c = search needs
-
-add-pair : tie.Need-add-pair
-add-pair c = search needs
-
-pair-requires : tie.Need-pair-requires
-pair-requires c κs = search needs
-
-add-pair-2 : tie.Need-add-pair-2
-add-pair-2 c = search needs
-
-pair-requires-2 : tie.Need-pair-requires-2
-pair-requires-2 c κs = search needs
-
-pair-requires-3 : tie.Need-pair-requires-3
-pair-requires-3 c κs = search needs
-
 returns-2 : tie.Need-returns-2
 returns-2 c =
     let a = c .before .before .before .before .before .args in
@@ -35,10 +17,10 @@ read-entry-spec =
     tie.close
     (tie.spec
     returns
-    mul-at
-    add-pair
-    pair-requires
-    add-pair-2
-    pair-requires-2
-    pair-requires-3
+    (λ c. search needs)
+    (λ c. search needs)
+    (λ c κs. tt)
+    (λ c. search needs)
+    (λ c κs. tt)
+    (λ c κs. tt)
     returns-2)

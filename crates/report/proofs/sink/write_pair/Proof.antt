@@ -6,23 +6,8 @@ use borrow.Author.Needs.{needs}
 use Rattle.report.proofs.sink.write_pair.Statement.{statement}
 use Rattle.report.proofs.sink.write_pair.Tie as tie
 
-cast-room : tie.Need-cast-room
-cast-room c = search needs
-
-slice-write-room : tie.Need-slice-write-room
-slice-write-room c = search needs
-
-cast-room-2 : tie.Need-cast-room-2
-cast-room-2 c = search needs
-
-add-room : tie.Need-add-room
-add-room c = search needs
-
 slice-write-room-2 : tie.Need-slice-write-room-2
 slice-write-room-2 c = simp length-set (omega arith)
-
-same-length : tie.Need-same-length
-same-length c = search needs
 
 returns : tie.Need-returns
 returns c = simp towards-suc
@@ -31,10 +16,10 @@ pub write-pair-spec : {M : Type 1} → statement M
 write-pair-spec =
     tie.close
     (tie.spec
-    cast-room
-    slice-write-room
-    cast-room-2
-    add-room
+    (λ c. search needs)
+    (λ c. search needs)
+    (λ c. search needs)
+    (λ c. search needs)
     slice-write-room-2
-    same-length
+    (λ c. search needs)
     returns)

@@ -4,12 +4,6 @@ use borrow.Author.Needs.{needs}
 use Rattle.rules_fields.proofs.version.is_v3.Statement.{statement}
 use Rattle.rules_fields.proofs.version.is_v3.Tie as tie
 
-slice-aggregate-first-is : tie.Need-slice-aggregate-first-is
-slice-aggregate-first-is c = search needs
-
-first-is-requires : tie.Need-first-is-requires
-first-is-requires c κs = search needs
-
 returns : tie.Need-returns
 returns c = rw (eq-eqb _ _ (c .before .before .if1 .taken)) (c .first-is .ensures)
 
@@ -20,7 +14,7 @@ pub is-v3-spec : {M : Type 1} → statement M
 is-v3-spec =
     tie.close
     (tie.spec
-    slice-aggregate-first-is
-    first-is-requires
+    (λ c. search needs)
+    (λ c κs. tt)
     returns
     returns-2)

@@ -18,9 +18,6 @@ loop-holds c = begin _ _ (c .pre) (c .fits .x .fits)
 sub-i : tie.Need-sub-i Inv-loop μ-loop
 sub-i c = c .before .loop .inv .some
 
-add-space : tie.Need-add-space Inv-loop μ-loop
-add-space c = search needs
-
 cast-space : tie.Need-cast-space Inv-loop μ-loop
 cast-space c = omega arith
 
@@ -35,9 +32,6 @@ loop-again c = digit-on (c .before .loop .inv) (c .loop-test .taken)
 
 sub-i-2 : tie.Need-sub-i-2 Inv-loop μ-loop
 sub-i-2 c = c .before .loop .inv .some
-
-add-space-2 : tie.Need-add-space-2 Inv-loop μ-loop
-add-space-2 c = search needs
 
 cast-space-2 : tie.Need-cast-space-2 Inv-loop μ-loop
 cast-space-2 c = omega arith
@@ -59,13 +53,13 @@ digits-spec =
     μ-loop
     loop-holds
     sub-i
-    add-space
+    (λ c. search needs)
     cast-space
     slice-write-space
     loop-less
     loop-again
     sub-i-2
-    add-space-2
+    (λ c. search needs)
     cast-space-2
     slice-write-space-2
     same-length

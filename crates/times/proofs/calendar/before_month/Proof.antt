@@ -18,18 +18,6 @@ loop-holds : tie.Need-loop-holds Inv-loop μ-loop
 unfolding beforeMonth
 loop-holds c = (refl, omega arith, omega arith)
 
-month-length-requires : tie.Need-month-length-requires Inv-loop μ-loop
-month-length-requires c κs = search needs
-
-wide-requires : tie.Need-wide-requires Inv-loop μ-loop
-wide-requires c κs = search needs
-
-add-days : tie.Need-add-days Inv-loop μ-loop
-add-days c = search needs
-
-add-m : tie.Need-add-m Inv-loop μ-loop
-add-m c = search needs
-
 loop-less : tie.Need-loop-less Inv-loop μ-loop
 loop-less c = omega arith
 
@@ -52,10 +40,10 @@ before-month-spec =
     Inv-loop
     μ-loop
     loop-holds
-    month-length-requires
-    wide-requires
-    add-days
-    add-m
+    (λ c κs. tt)
+    (λ c κs. tt)
+    (λ c. search needs)
+    (λ c. search needs)
     loop-less
     loop-again
     returns)

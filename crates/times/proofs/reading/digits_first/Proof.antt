@@ -20,12 +20,6 @@ abbrev μ-loop : tie.MeasureT-loop
 loop-holds : tie.Need-loop-holds Inv-loop μ-loop
 loop-holds c = rw sub-zero
 
-content-requires : tie.Need-content-requires Inv-loop μ-loop
-content-requires c κs = search needs
-
-is-digit-requires : tie.Need-is-digit-requires Inv-loop μ-loop
-is-digit-requires c κs = search needs
-
 returns : tie.Need-returns Inv-loop μ-loop
 returns c =
     let q = c .before .before in
@@ -35,9 +29,6 @@ returns c =
     let e = digits-bad contents (a .digits) (p .loop .k) _ _ (q .before .loop-test .taken) (q .content .ensures)
     (c .before .is-digit .ensures) (not-true _ (c .if1 .taken)) in
     sym (p .loop .inv ∙ e)
-
-add-k : tie.Need-add-k Inv-loop μ-loop
-add-k c = search needs
 
 loop-less : tie.Need-loop-less Inv-loop μ-loop
 loop-less c = omega arith
@@ -65,10 +56,10 @@ digits-first-spec =
     Inv-loop
     μ-loop
     loop-holds
-    content-requires
-    is-digit-requires
+    (λ c κs. tt)
+    (λ c κs. tt)
     returns
-    add-k
+    (λ c. search needs)
     loop-less
     loop-again
     returns-2)

@@ -4,15 +4,9 @@ use Rattle.values.specs.Policies.{otherQualifier}
 use Rattle.values.proofs.policies.other_qualifier.Statement.{statement}
 use Rattle.values.proofs.policies.other_qualifier.Tie as tie
 
-slice-aggregate-first-is : tie.Need-slice-aggregate-first-is
-slice-aggregate-first-is c = search needs
-
-first-is-requires : tie.Need-first-is-requires
-first-is-requires c κs = search needs
-
 returns : tie.Need-returns
 unfolding otherQualifier
 returns c = rw (c .first-is .ensures)
 
 pub other-qualifier-spec : {M : Type 1} → statement M
-other-qualifier-spec = tie.close (tie.spec slice-aggregate-first-is first-is-requires returns)
+other-qualifier-spec = tie.close (tie.spec (λ c. search needs) (λ c κs. tt) returns)

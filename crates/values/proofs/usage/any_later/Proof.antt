@@ -2,7 +2,6 @@
 use mathlib.Core.Path.{_≡_, refl, sym, _∙_}
 use Prim.Native.Nat.{_+_, _-_}
 use native.Mathlib.Omega.{arith}
-use borrow.Author.Needs.{needs}
 use Rattle.values.specs.Usage.{anySet}
 use Rattle.octets.specs.Octets.{octetsFrom}
 use Rattle.values.proofs.Laws.Usage.{bits-done, bits-here, bits-later}
@@ -17,12 +16,6 @@ abbrev μ-loop : tie.MeasureT-loop
 
 loop-holds : tie.Need-loop-holds Inv-loop μ-loop
 loop-holds c = refl
-
-octet-past-requires : tie.Need-octet-past-requires Inv-loop μ-loop
-octet-past-requires c κs = search needs
-
-any-bit-requires : tie.Need-any-bit-requires Inv-loop μ-loop
-any-bit-requires c κs = search needs
 
 returns : tie.Need-returns Inv-loop μ-loop
 returns c =
@@ -59,8 +52,8 @@ any-later-spec =
     Inv-loop
     μ-loop
     loop-holds
-    octet-past-requires
-    any-bit-requires
+    (λ c κs. tt)
+    (λ c κs. tt)
     returns
     add-k
     loop-less

@@ -1,17 +1,10 @@
 -- `values::usage::other_bits` meets its contract. Assumes nothing.
-use borrow.Author.Needs.{needs}
 use Rattle.values.proofs.Laws.Usage.{other-none, other-first, other-later}
 use Rattle.values.proofs.usage.other_bits.Statement.{statement}
 use Rattle.values.proofs.usage.other_bits.Tie as tie
 
 returns : tie.Need-returns
 returns c = let a = c .before .before .args in other-none (a .s .now) (a .body) (a .n) (a .allowed) (c .if1 .taken)
-
-octet-past-requires : tie.Need-octet-past-requires
-octet-past-requires c κs = search needs
-
-other-in-first-requires : tie.Need-other-in-first-requires
-other-in-first-requires c κs = search needs
 
 returns-2 : tie.Need-returns-2
 returns-2 c =
@@ -20,9 +13,6 @@ returns-2 c =
     let a = o .before .before .before .args in
     other-first (a .s .now) (a .body) (a .n) (o .octet-past .result) (a .allowed) (f .other-in-first .result) (o .before .if1 .left)
     (o .octet-past .ensures) (f .other-in-first .ensures) (c .if2 .taken)
-
-any-later-requires : tie.Need-any-later-requires
-any-later-requires c κs = search needs
 
 returns-3 : tie.Need-returns-3
 returns-3 c =
@@ -37,8 +27,8 @@ other-bits-spec =
     tie.close
     (tie.spec
     returns
-    octet-past-requires
-    other-in-first-requires
+    (λ c κs. tt)
+    (λ c κs. tt)
     returns-2
-    any-later-requires
+    (λ c κs. tt)
     returns-3)

@@ -1,29 +1,7 @@
 -- `values::usage::other_in_first` meets its contract. Assumes nothing.
-use borrow.Author.Needs.{needs}
 use Rattle.values.proofs.Laws.Usage.{first-bits}
 use Rattle.values.proofs.usage.other_in_first.Statement.{statement}
 use Rattle.values.proofs.usage.other_in_first.Tie as tie
-
-odd-alone-requires : tie.Need-odd-alone-requires
-odd-alone-requires c κs = search needs
-
-odd-alone-requires-2 : tie.Need-odd-alone-requires-2
-odd-alone-requires-2 c κs = search needs
-
-odd-alone-requires-3 : tie.Need-odd-alone-requires-3
-odd-alone-requires-3 c κs = search needs
-
-odd-alone-requires-4 : tie.Need-odd-alone-requires-4
-odd-alone-requires-4 c κs = search needs
-
-odd-alone-requires-5 : tie.Need-odd-alone-requires-5
-odd-alone-requires-5 c κs = search needs
-
-odd-alone-requires-6 : tie.Need-odd-alone-requires-6
-odd-alone-requires-6 c κs = search needs
-
-odd-alone-requires-7 : tie.Need-odd-alone-requires-7
-odd-alone-requires-7 c κs = search needs
 
 returns : tie.Need-returns
 returns c =
@@ -46,11 +24,11 @@ pub other-in-first-spec : {M : Type 1} → statement M
 other-in-first-spec =
     tie.close
     (tie.spec
-    odd-alone-requires
-    odd-alone-requires-2
-    odd-alone-requires-3
-    odd-alone-requires-4
-    odd-alone-requires-5
-    odd-alone-requires-6
-    odd-alone-requires-7
+    (λ c κs. tt)
+    (λ c κs. tt)
+    (λ c κs. tt)
+    (λ c κs. tt)
+    (λ c κs. tt)
+    (λ c κs. tt)
+    (λ c κs. tt)
     returns)

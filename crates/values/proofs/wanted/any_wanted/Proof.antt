@@ -2,7 +2,6 @@
 use mathlib.Core.Path.{_≡_, refl, sym, _∙_}
 use Prim.Native.Nat.{_-_}
 use native.Mathlib.Omega.{arith}
-use borrow.Author.Needs.{needs}
 use Rattle.values.specs.Wanted.{isWanted}
 use Rattle.der.specs.Header.{childrenOf}
 use Rattle.der.proofs.Laws.Header.{head-forward}
@@ -19,12 +18,6 @@ abbrev μ-loop : tie.MeasureT-loop
 
 loop-holds : tie.Need-loop-holds Inv-loop μ-loop
 loop-holds c = refl
-
-head-at-requires : tie.Need-head-at-requires Inv-loop μ-loop
-head-at-requires c κs = search needs
-
-is-wanted-requires : tie.Need-is-wanted-requires Inv-loop μ-loop
-is-wanted-requires c κs = search needs
 
 returns : tie.Need-returns Inv-loop μ-loop
 returns c =
@@ -63,8 +56,8 @@ any-wanted-spec =
     Inv-loop
     μ-loop
     loop-holds
-    head-at-requires
-    is-wanted-requires
+    (λ c κs. tt)
+    (λ c κs. tt)
     returns
     loop-less
     loop-again

@@ -3,24 +3,6 @@ use borrow.Author.Needs.{needs}
 use Rattle.values.proofs.wanted.is_wanted.Statement.{statement}
 use Rattle.values.proofs.wanted.is_wanted.Tie as tie
 
-enum-known-w : tie.Need-enum-known-w
-enum-known-w c = search needs
-
-purpose-is-requires : tie.Need-purpose-is-requires
-purpose-is-requires c κs = search needs
-
-enum-known-w-2 : tie.Need-enum-known-w-2
-enum-known-w-2 c = search needs
-
-policy-is-requires : tie.Need-policy-is-requires
-policy-is-requires c κs = search needs
-
-enum-told : tie.Need-enum-told
-enum-told c = search needs
-
-policy-below-requires : tie.Need-policy-below-requires
-policy-below-requires c κs = search needs
-
 returns : tie.Need-returns
 returns c = rw (c .before .before .w .given .1) (c .purpose-is .ensures)
 
@@ -34,12 +16,12 @@ pub is-wanted-spec : {M : Type 1} → statement M
 is-wanted-spec =
     tie.close
     (tie.spec
-    enum-known-w
-    purpose-is-requires
-    enum-known-w-2
-    policy-is-requires
-    enum-told
-    policy-below-requires
+    (λ c. search needs)
+    (λ c κs. tt)
+    (λ c. search needs)
+    (λ c κs. tt)
+    (λ c. search needs)
+    (λ c κs. tt)
     returns
     returns-2
     returns-3)

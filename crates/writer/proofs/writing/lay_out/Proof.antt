@@ -10,29 +10,11 @@ use Rattle.writer.proofs.Laws.Desk.{laid-out}
 use Rattle.writer.proofs.writing.lay_out.Statement.{statement}
 use Rattle.writer.proofs.writing.lay_out.Tie as tie
 
-slice-write-desk : tie.Need-slice-write-desk
-slice-write-desk c = search needs
-
-cast-desk : tie.Need-cast-desk
-cast-desk c = search needs
-
 slice-write-desk-2 : tie.Need-slice-write-desk-2
 slice-write-desk-2 c = simp length-set (omega arith)
 
-cast-desk-2 : tie.Need-cast-desk-2
-cast-desk-2 c = search needs
-
 slice-write-desk-3 : tie.Need-slice-write-desk-3
 slice-write-desk-3 c = simp length-set (omega arith)
-
-copy-requires : tie.Need-copy-requires
-copy-requires c κs = search needs
-
-add-copy : tie.Need-add-copy
-add-copy c = search needs
-
-copy-requires-2 : tie.Need-copy-requires-2
-copy-requires-2 c κs = search needs
 
 same-length : tie.Need-same-length
 same-length c =
@@ -56,13 +38,13 @@ pub lay-out-spec : {M : Type 1} → statement M
 lay-out-spec =
     tie.close
     (tie.spec
-    slice-write-desk
-    cast-desk
+    (λ c. search needs)
+    (λ c. search needs)
     slice-write-desk-2
-    cast-desk-2
+    (λ c. search needs)
     slice-write-desk-3
-    copy-requires
-    add-copy
-    copy-requires-2
+    (λ c κs. tt)
+    (λ c. search needs)
+    (λ c κs. tt)
     same-length
     returns)

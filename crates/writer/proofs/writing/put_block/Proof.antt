@@ -5,24 +5,6 @@ use Rattle.writer.proofs.Laws.Rooms.{block-put}
 use Rattle.writer.proofs.writing.put_block.Statement.{statement}
 use Rattle.writer.proofs.writing.put_block.Tie as tie
 
-cast-put-head : tie.Need-cast-put-head
-cast-put-head c = search needs
-
-put-head-requires : tie.Need-put-head-requires
-put-head-requires c κs = search needs
-
-mul-copy : tie.Need-mul-copy
-mul-copy c = search needs
-
-copy-requires : tie.Need-copy-requires
-copy-requires c κs = search needs
-
-put-check-requires : tie.Need-put-check-requires
-put-check-requires c κs = search needs
-
-same-length : tie.Need-same-length
-same-length c = search needs
-
 returns : tie.Need-returns
 returns c =
     let check = c .before .before in
@@ -37,10 +19,10 @@ pub put-block-spec : {M : Type 1} → statement M
 put-block-spec =
     tie.close
     (tie.spec
-    cast-put-head
-    put-head-requires
-    mul-copy
-    copy-requires
-    put-check-requires
-    same-length
+    (λ c. search needs)
+    (λ c κs. search needs)
+    (λ c. search needs)
+    (λ c κs. tt)
+    (λ c κs. search needs)
+    (λ c. search needs)
     returns)

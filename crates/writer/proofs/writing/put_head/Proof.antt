@@ -8,38 +8,8 @@ use Rattle.octets.specs.Numbers.{pairOf, quadOf}
 use Rattle.writer.proofs.writing.put_head.Statement.{statement}
 use Rattle.writer.proofs.writing.put_head.Tie as tie
 
-cast-block : tie.Need-cast-block
-cast-block c = search needs
-
-slice-write-block : tie.Need-slice-write-block
-slice-write-block c = search needs
-
-cast-block-2 : tie.Need-cast-block-2
-cast-block-2 c = search needs
-
-slice-write-block-2 : tie.Need-slice-write-block-2
-slice-write-block-2 c = search needs
-
-cast-block-3 : tie.Need-cast-block-3
-cast-block-3 c = search needs
-
-slice-write-block-3 : tie.Need-slice-write-block-3
-slice-write-block-3 c = search needs
-
-cast-block-4 : tie.Need-cast-block-4
-cast-block-4 c = search needs
-
-slice-write-block-4 : tie.Need-slice-write-block-4
-slice-write-block-4 c = search needs
-
-cast-block-5 : tie.Need-cast-block-5
-cast-block-5 c = search needs
-
 slice-write-block-5 : tie.Need-slice-write-block-5
 slice-write-block-5 c = simp length-set (omega arith)
-
-cast-block-6 : tie.Need-cast-block-6
-cast-block-6 c = search needs
 
 slice-write-block-6 : tie.Need-slice-write-block-6
 slice-write-block-6 c = simp length-set (omega arith)
@@ -50,9 +20,6 @@ slice-write-block-7 c = simp length-set (omega arith)
 slice-write-block-8 : tie.Need-slice-write-block-8
 slice-write-block-8 c = simp length-set (omega arith)
 
-same-length : tie.Need-same-length
-same-length c = search needs
-
 returns : tie.Need-returns
 returns c =
     let a = c .args in
@@ -62,19 +29,19 @@ pub put-head-spec : {M : Type 1} → statement M
 put-head-spec =
     tie.close
     (tie.spec
-    cast-block
-    slice-write-block
-    cast-block-2
-    slice-write-block-2
-    cast-block-3
-    slice-write-block-3
-    cast-block-4
-    slice-write-block-4
-    cast-block-5
+    (λ c. search needs)
+    (λ c. search needs)
+    (λ c. search needs)
+    (λ c. search needs)
+    (λ c. search needs)
+    (λ c. search needs)
+    (λ c. search needs)
+    (λ c. search needs)
+    (λ c. search needs)
     slice-write-block-5
-    cast-block-6
+    (λ c. search needs)
     slice-write-block-6
     slice-write-block-7
     slice-write-block-8
-    same-length
+    (λ c. search needs)
     returns)

@@ -4,13 +4,13 @@ use Prim.Native.Nat.{_≤_}
 use native.Mathlib.Omega.{arith}
 use lib.ListN.{length}
 use borrow.Author.Needs.{needs}
+use Rattle.writer.specs.declared.writing.Answer.the-variants.{Blocks, Refused}
 use Rattle.lint.specs.Judging.{admissionOf}
 use Rattle.lint.specs.declared.refusals.Refusal.the-variants.{NoNumber, NoRoom}
 use Rattle.lint.specs.declared.judging.Judgement.the-variants.{Accepted}
 use Rattle.lint.proofs.Laws.Accepted.{admitted-certificate, admitted-issuer}
 use Rattle.blocks.specs.Record.{recordOf, parts}
 use Rattle.blocks.proofs.Laws.Record.{record-length}
-use Rattle.writer.specs.declared.writing.Answer.the-variants.{Blocks, Refused}
 use Rattle.writer.proofs.Laws.Answers.{answered}
 use Rattle.writer.proofs.Laws.Statements.{refused-first, refused-number, refused-room, taken}
 use Rattle.writer.proofs.writing.write_record.Statement.{statement}
@@ -39,12 +39,6 @@ counted c =
     let a = began (c .before .before) .args in
     c .parts-of .ensures ∙ ap parts (sym (record-length (a .profile) (a .certificate .now) (a .issuer .now)))
 
-admit-requires : tie.Need-admit-requires
-admit-requires c κs = search needs
-
-enum-known-admission : tie.Need-enum-known-admission
-enum-known-admission c = search needs
-
 returns : tie.Need-returns
 returns c =
     let told = c .before in
@@ -53,9 +47,6 @@ returns c =
     (refused-first (a .number) (a .profile) (a .certificate .now) (a .issuer .now) (a .room .now) _
     (sym (told .before .before .admit .ensures) ∙ told .admission .given .1))
     refl
-
-enum-told : tie.Need-enum-told
-enum-told c = search needs
 
 returns-2 : tie.Need-returns-2
 returns-2 c =
@@ -69,9 +60,6 @@ add-parts-of c = omega (arith, short-certificate (c .before))
 
 add-parts-of-2 : tie.Need-add-parts-of-2
 add-parts-of-2 c = omega (arith, short-certificate (c .before), short-issuer (c .before))
-
-parts-of-requires : tie.Need-parts-of-requires
-parts-of-requires c κs = search needs
 
 mul-if2 : tie.Need-mul-if2
 mul-if2 c = omega (arith, c .parts-of .ensures, short-certificate (c .before .before), short-issuer (c .before .before))
@@ -110,14 +98,14 @@ pub write-record-spec : {M : Type 1} → statement M
 write-record-spec =
     tie.close
     (tie.spec
-    admit-requires
-    enum-known-admission
+    (λ c κs. tt)
+    (λ c. search needs)
     returns
-    enum-told
+    (λ c. search needs)
     returns-2
     add-parts-of
     add-parts-of-2
-    parts-of-requires
+    (λ c κs. tt)
     mul-if2
     returns-3
     put-record-requires
