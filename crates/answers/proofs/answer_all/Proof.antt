@@ -48,17 +48,5 @@ returns-2 c = tt
 pub answer-all-spec : {M : Type 1} → statement M
 answer-all-spec =
     tie.close
-    (tie.spec
-    Inv-loop
-    μ-loop
-    loop-holds
-    answer-next-requires
-    sub-turns
-    loop-less
-    loop-again
-    same-length
-    same-length-2
-    returns
-    same-length-3
-    same-length-4
-    returns-2)
+    (tie.spec Inv-loop μ-loop loop-holds answer-next-requires sub-turns loop-less loop-again same-length same-length-2
+    returns same-length-3 same-length-4 returns-2)

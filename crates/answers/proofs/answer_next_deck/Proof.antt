@@ -65,23 +65,7 @@ returns-4 c = search needs
 pub answer-next-deck-spec : {M : Type 1} → statement M
 answer-next-deck-spec =
     tie.close
-    (tie.spec
-    number-requires
-    number-requires-2
-    no-deck-requires
-    same-length
-    returns
-    no-deck-requires-2
-    same-length-2
-    returns-2
-    no-deck-requires-3
-    same-length-3
-    returns-3
-    slice-relend-prefix-read-deck
-    slice-aggregate-read-deck
-    slice-relend-prefix-read-deck-2
-    slice-aggregate-read-deck-2
-    read-deck-requires
-    same-length-4
-    same-length-5
+    (tie.spec number-requires number-requires-2 no-deck-requires same-length returns no-deck-requires-2 same-length-2
+    returns-2 no-deck-requires-3 same-length-3 returns-3 slice-relend-prefix-read-deck slice-aggregate-read-deck
+    slice-relend-prefix-read-deck-2 slice-aggregate-read-deck-2 read-deck-requires same-length-4 same-length-5
     returns-4)

@@ -66,20 +66,6 @@ returns-4 c = search needs
 pub answer-next-of-spec : {M : Type 1} → statement M
 answer-next-of-spec =
     tie.close
-    (tie.spec
-    returns
-    slice-relend-prefix-read-full
-    slice-aggregate-read-full
-    read-full-requires
-    same-length
-    returns-2
-    answer-next-deck-requires
-    same-length-2
-    same-length-3
-    returns-3
-    slice-reshare-prefix-answer-frame
-    slice-aggregate-answer-frame
-    answer-frame-requires
-    same-length-4
-    same-length-5
-    returns-4)
+    (tie.spec returns slice-relend-prefix-read-full slice-aggregate-read-full read-full-requires same-length returns-2
+    answer-next-deck-requires same-length-2 same-length-3 returns-3 slice-reshare-prefix-answer-frame
+    slice-aggregate-answer-frame answer-frame-requires same-length-4 same-length-5 returns-4)

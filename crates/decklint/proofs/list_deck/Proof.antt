@@ -93,25 +93,6 @@ returns-2 c = tt
 pub list-deck-spec : {M : Type 1} → statement M
 list-deck-spec =
     tie.close
-    (tie.spec
-    Inv-loop
-    μ-loop
-    large-buffer-requires
-    loop-holds
-    slice-aggregate-next-lines
-    next-lines-requires
-    add-position
-    sub-if2
-    write-requires
-    same-length
-    returns
-    loop-less
-    loop-again
-    loop-less-2
-    loop-again-2
-    tally-requires
-    block-count-requires
-    total-line-requires
-    write-requires-2
-    same-length-2
-    returns-2)
+    (tie.spec Inv-loop μ-loop large-buffer-requires loop-holds slice-aggregate-next-lines next-lines-requires
+    add-position sub-if2 write-requires same-length returns loop-less loop-again loop-less-2 loop-again-2
+    tally-requires block-count-requires total-line-requires write-requires-2 same-length-2 returns-2)

@@ -64,22 +64,6 @@ returns-2 c = search needs
 pub read-all-spec : {M : Type 1} → statement M
 read-all-spec =
     tie.close
-    (tie.spec
-    Inv-loop
-    μ-loop
-    loop-holds
-    sub-read
-    part-read-start
-    part-read-end
-    read-requires
-    sub-count
-    part-count-start
-    part-count-end
-    count-requires
-    same-length
-    returns
-    add-n
-    loop-less
-    loop-again
-    same-length-2
+    (tie.spec Inv-loop μ-loop loop-holds sub-read part-read-start part-read-end read-requires sub-count
+    part-count-start part-count-end count-requires same-length returns add-n loop-less loop-again same-length-2
     returns-2)

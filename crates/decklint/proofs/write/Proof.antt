@@ -26,10 +26,4 @@ returns-2 c = search needs
 pub write-spec : {M : Type 1} → statement M
 write-spec =
     tie.close
-    (tie.spec
-    slice-aggregate-write-all
-    write-all-requires
-    slice-aggregate-fail
-    fail-requires
-    returns
-    returns-2)
+    (tie.spec slice-aggregate-write-all write-all-requires slice-aggregate-fail fail-requires returns returns-2)

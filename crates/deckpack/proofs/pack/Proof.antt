@@ -52,15 +52,5 @@ returns-2 c = search needs
 pub pack-spec : {M : Type 1} → statement M
 pack-spec =
     tie.close
-    (tie.spec
-    slice-aggregate-write-record
-    write-record-requires
-    enum-known-answer
-    mul-room
-    array-share-prefix-room
-    slice-aggregate-put
-    put-requires
-    enum-known-answer-2
-    say-refusal-requires
-    returns
-    returns-2)
+    (tie.spec slice-aggregate-write-record write-record-requires enum-known-answer mul-room array-share-prefix-room
+    slice-aggregate-put put-requires enum-known-answer-2 say-refusal-requires returns returns-2)

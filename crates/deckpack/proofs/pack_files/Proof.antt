@@ -66,20 +66,6 @@ returns-3 c = search needs
 pub pack-files-spec : {M : Type 1} → statement M
 pack-files-spec =
     tie.close
-    (tie.spec
-    slice-aggregate-load
-    load-requires
-    enum-known-first
-    enum-told
-    returns
-    slice-aggregate-load-2
-    load-requires-2
-    enum-known-second
-    enum-told-2
-    returns-2
-    array-share-prefix-certificate
-    slice-aggregate-pack
-    array-share-prefix-issuer
-    slice-aggregate-pack-2
-    pack-requires
-    returns-3)
+    (tie.spec slice-aggregate-load load-requires enum-known-first enum-told returns slice-aggregate-load-2
+    load-requires-2 enum-known-second enum-told-2 returns-2 array-share-prefix-certificate slice-aggregate-pack
+    array-share-prefix-issuer slice-aggregate-pack-2 pack-requires returns-3)

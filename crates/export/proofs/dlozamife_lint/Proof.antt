@@ -28,12 +28,5 @@ returns-2 c =
 pub dlozamife-lint-spec : {M : Type 1} → statement M
 dlozamife-lint-spec =
     tie.close
-    (tie.spec
-    (λ c κs. tt)
-    (λ c. search needs)
-    (λ c. search needs)
-    packed-requires
-    (λ c. search needs)
-    returns
-    (λ c. search needs)
-    returns-2)
+    (tie.spec (λ c κs. tt) (λ c. search needs) (λ c. search needs) packed-requires (λ c. search needs) returns
+    (λ c. search needs) returns-2)

@@ -35,13 +35,5 @@ returns c = packed-by _ _ _ _ (c .before .before .number-of .ensures) (c .before
 pub packed-spec : {M : Type 1} → statement M
 packed-spec =
     tie.close
-    (tie.spec
-    (λ c κs. tt)
-    (λ c κs. tt)
-    (λ c κs. tt)
-    mul-result
-    add-result
-    mul-result-2
-    add-result-2
-    add-result-3
+    (tie.spec (λ c κs. tt) (λ c κs. tt) (λ c κs. tt) mul-result add-result mul-result-2 add-result-2 add-result-3
     returns)

@@ -65,23 +65,7 @@ returns-3 c = search needs
 pub answer-call-spec : {M : Type 1} → statement M
 answer-call-spec =
     tie.close
-    (tie.spec
-    octet-requires
-    number-requires
-    pair-requires
-    add-cut
-    say-no-call-requires
-    returns
-    say-no-call-requires-2
-    returns-2
-    sub-call-linter
-    part-call-linter-start
-    part-call-linter-end
-    sub-call-linter-2
-    part-call-linter-start-2
-    part-call-linter-end-2
-    slice-relend-prefix-call-linter
-    slice-aggregate-call-linter
-    call-linter-requires
-    same-length
-    returns-3)
+    (tie.spec octet-requires number-requires pair-requires add-cut say-no-call-requires returns say-no-call-requires-2
+    returns-2 sub-call-linter part-call-linter-start part-call-linter-end sub-call-linter-2 part-call-linter-start-2
+    part-call-linter-end-2 slice-relend-prefix-call-linter slice-aggregate-call-linter call-linter-requires
+    same-length returns-3)

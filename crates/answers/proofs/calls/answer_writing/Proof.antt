@@ -80,28 +80,7 @@ returns-3 c = search needs
 pub answer-writing-spec : {M : Type 1} → statement M
 answer-writing-spec =
     tie.close
-    (tie.spec
-    pair-requires
-    mul-number
-    pair-requires-2
-    add-number
-    octet-requires
-    number-requires
-    pair-requires-3
-    add-cut
-    say-no-call-requires
-    returns
-    say-no-call-requires-2
-    returns-2
-    cast-call-writer
-    sub-call-writer
-    part-call-writer-start
-    part-call-writer-end
-    sub-call-writer-2
-    part-call-writer-start-2
-    part-call-writer-end-2
-    slice-relend-prefix-call-writer
-    slice-aggregate-call-writer
-    call-writer-requires
-    same-length
-    returns-3)
+    (tie.spec pair-requires mul-number pair-requires-2 add-number octet-requires number-requires pair-requires-3
+    add-cut say-no-call-requires returns say-no-call-requires-2 returns-2 cast-call-writer sub-call-writer
+    part-call-writer-start part-call-writer-end sub-call-writer-2 part-call-writer-start-2 part-call-writer-end-2
+    slice-relend-prefix-call-writer slice-aggregate-call-writer call-writer-requires same-length returns-3)

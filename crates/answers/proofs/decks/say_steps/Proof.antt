@@ -61,15 +61,5 @@ loop-again c = (search needs, within (c .before .before .before))
 pub say-steps-spec : {M : Type 1} → statement M
 say-steps-spec =
     tie.close
-    (tie.spec
-    Inv-loop
-    μ-loop
-    loop-holds
-    step-requires
-    item-blocks-requires
-    same-length
-    returns
-    say-item-requires
-    add-position
-    loop-less
-    loop-again)
+    (tie.spec Inv-loop μ-loop loop-holds step-requires item-blocks-requires same-length returns say-item-requires
+    add-position loop-less loop-again)

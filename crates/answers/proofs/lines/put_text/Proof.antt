@@ -49,17 +49,5 @@ returns-2 c = tt
 pub put-text-spec : {M : Type 1} → statement M
 put-text-spec =
     tie.close
-    (tie.spec
-    Inv-loop
-    μ-loop
-    loop-holds
-    same-length
-    returns
-    shared-slice-read-line
-    slice-write-line
-    add-at
-    add-k
-    loop-less
-    loop-again
-    same-length-2
-    returns-2)
+    (tie.spec Inv-loop μ-loop loop-holds same-length returns shared-slice-read-line slice-write-line add-at add-k
+    loop-less loop-again same-length-2 returns-2)

@@ -56,13 +56,4 @@ loop-again c =
 pub end-before-spec : {M : Type 1} → statement M
 end-before-spec =
     tie.close
-    (tie.spec
-    Inv-loop
-    μ-loop
-    loop-holds
-    (λ c κs. tt)
-    returns
-    returns-2
-    add-j
-    loop-less
-    loop-again)
+    (tie.spec Inv-loop μ-loop loop-holds (λ c κs. tt) returns returns-2 add-j loop-less loop-again)

@@ -54,13 +54,4 @@ loop-again c =
 pub find-alternative-spec : {M : Type 1} → statement M
 find-alternative-spec =
     tie.close
-    (tie.spec
-    Inv-loop
-    μ-loop
-    loop-holds
-    (λ c κs. tt)
-    (λ c κs. tt)
-    returns
-    add-m
-    loop-less
-    loop-again)
+    (tie.spec Inv-loop μ-loop loop-holds (λ c κs. tt) (λ c κs. tt) returns add-m loop-less loop-again)

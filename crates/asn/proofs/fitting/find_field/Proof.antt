@@ -67,15 +67,5 @@ loop-again c =
 pub find-field-spec : {M : Type 1} → statement M
 find-field-spec =
     tie.close
-    (tie.spec
-    Inv-loop
-    μ-loop
-    loop-holds
-    (λ c κs. tt)
-    returns
-    find-alternative-requires
-    row-after-requires
-    returns-2
-    add-j
-    loop-less
-    loop-again)
+    (tie.spec Inv-loop μ-loop loop-holds (λ c κs. tt) returns find-alternative-requires row-after-requires returns-2
+    add-j loop-less loop-again)

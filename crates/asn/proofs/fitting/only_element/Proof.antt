@@ -26,10 +26,4 @@ returns c =
 pub only-element-spec : {M : Type 1} → statement M
 only-element-spec =
     tie.close
-    (tie.spec
-    (λ c. search needs)
-    (λ c κs. tt)
-    (λ c. search needs)
-    (λ c. search needs)
-    walk-requires
-    returns)
+    (tie.spec (λ c. search needs) (λ c κs. tt) (λ c. search needs) (λ c. search needs) walk-requires returns)

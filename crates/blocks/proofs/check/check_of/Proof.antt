@@ -20,9 +20,4 @@ check-body-requires-2 c κs = simp length-take (omega arith)
 pub check-of-spec : {M : Type 1} → statement M
 check-of-spec =
     tie.close
-    (tie.spec
-    (λ c κs. search needs)
-    returns
-    slice-aggregate-check-body
-    check-body-requires-2
-    (λ c. search needs))
+    (tie.spec (λ c κs. search needs) returns slice-aggregate-check-body check-body-requires-2 (λ c. search needs))

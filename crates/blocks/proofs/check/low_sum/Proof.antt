@@ -64,16 +64,5 @@ returns c =
 pub low-sum-spec : {M : Type 1} → statement M
 low-sum-spec =
     tie.close
-    (tie.spec
-    Inv-loop
-    μ-loop
-    loop-holds
-    shared-slice-read-sum
-    cast-sum
-    mul-sum
-    add-sum
-    add-weight
-    add-i
-    loop-less
-    loop-again
-    returns)
+    (tie.spec Inv-loop μ-loop loop-holds shared-slice-read-sum cast-sum mul-sum add-sum add-weight add-i loop-less
+    loop-again returns)

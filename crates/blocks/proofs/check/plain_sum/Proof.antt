@@ -49,14 +49,4 @@ returns c =
 pub plain-sum-spec : {M : Type 1} → statement M
 plain-sum-spec =
     tie.close
-    (tie.spec
-    Inv-loop
-    μ-loop
-    loop-holds
-    shared-slice-read-sum
-    cast-sum
-    add-sum
-    add-i
-    loop-less
-    loop-again
-    returns)
+    (tie.spec Inv-loop μ-loop loop-holds shared-slice-read-sum cast-sum add-sum add-i loop-less loop-again returns)

@@ -52,13 +52,4 @@ returns-2 c =
 pub is-filled-spec : {M : Type 1} → statement M
 is-filled-spec =
     tie.close
-    (tie.spec
-    Inv-loop
-    μ-loop
-    loop-holds
-    (λ c κs. tt)
-    returns
-    add-i
-    loop-less
-    loop-again
-    returns-2)
+    (tie.spec Inv-loop μ-loop loop-holds (λ c κs. tt) returns add-i loop-less loop-again returns-2)

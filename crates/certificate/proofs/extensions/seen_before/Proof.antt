@@ -54,13 +54,4 @@ returns-2 c =
 pub seen-before-spec : {M : Type 1} → statement M
 seen-before-spec =
     tie.close
-    (tie.spec
-    Inv-loop
-    μ-loop
-    loop-holds
-    (λ c κs. tt)
-    (λ c κs. tt)
-    returns
-    loop-less
-    loop-again
-    returns-2)
+    (tie.spec Inv-loop μ-loop loop-holds (λ c κs. tt) (λ c κs. tt) returns loop-less loop-again returns-2)

@@ -60,17 +60,5 @@ returns-5 c =
 pub slot-for-spec : {M : Type 1} → statement M
 slot-for-spec =
     tie.close
-    (tie.spec
-    (λ c κs. tt)
-    (λ c κs. tt)
-    (λ c κs. tt)
-    (λ c κs. tt)
-    returns
-    returns-2
-    (λ c. search needs)
-    (λ c κs. tt)
-    returns-3
-    (λ c. search needs)
-    (λ c κs. tt)
-    returns-4
-    returns-5)
+    (tie.spec (λ c κs. tt) (λ c κs. tt) (λ c κs. tt) (λ c κs. tt) returns returns-2 (λ c. search needs) (λ c κs. tt)
+    returns-3 (λ c. search needs) (λ c κs. tt) returns-4 returns-5)

@@ -23,11 +23,4 @@ returns-3 c =
 pub kind-of-spec : {M : Type 1} → statement M
 kind-of-spec =
     tie.close
-    (tie.spec
-    (λ c. search needs)
-    (λ c κs. tt)
-    returns
-    (λ c. search needs)
-    (λ c κs. tt)
-    returns-2
-    returns-3)
+    (tie.spec (λ c. search needs) (λ c κs. tt) returns (λ c. search needs) (λ c κs. tt) returns-2 returns-3)

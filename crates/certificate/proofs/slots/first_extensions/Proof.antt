@@ -59,17 +59,5 @@ returns c =
 pub first-extensions-spec : {M : Type 1} → statement M
 first-extensions-spec =
     tie.close
-    (tie.spec
-    Inv-loop
-    μ-loop
-    loop-holds
-    (λ c κs. tt)
-    (λ c κs. tt)
-    mul-or-else
-    array-read-or-else
-    (λ c κs. tt)
-    mul-starts
-    array-write-starts
-    loop-less
-    loop-again
-    returns)
+    (tie.spec Inv-loop μ-loop loop-holds (λ c κs. tt) (λ c κs. tt) mul-or-else array-read-or-else (λ c κs. tt)
+    mul-starts array-write-starts loop-less loop-again returns)

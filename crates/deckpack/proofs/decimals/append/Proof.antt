@@ -36,13 +36,4 @@ returns-3 c = append-digit _ _ (sym (c .before .before .is-digit .ensures) ∙ n
 pub append-spec : {M : Type 1} → statement M
 append-spec =
     tie.close
-    (tie.spec
-    is-digit-requires
-    returns
-    mul-next
-    sub-next
-    cast-next
-    add-next
-    returns-2
-    cast-t10
-    returns-3)
+    (tie.spec is-digit-requires returns mul-next sub-next cast-next add-next returns-2 cast-t10 returns-3)

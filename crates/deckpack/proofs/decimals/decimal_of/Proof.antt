@@ -61,17 +61,5 @@ returns-3 c =
 pub decimal-of-spec : {M : Type 1} → statement M
 decimal-of-spec =
     tie.close
-    (tie.spec
-    Inv-loop
-    μ-loop
-    returns
-    loop-holds
-    shared-slice-read-append
-    append-requires
-    enum-known-next
-    enum-told
-    returns-2
-    add-k
-    loop-less
-    loop-again
-    returns-3)
+    (tie.spec Inv-loop μ-loop returns loop-holds shared-slice-read-append append-requires enum-known-next enum-told
+    returns-2 add-k loop-less loop-again returns-3)

@@ -49,14 +49,4 @@ returns-3 c =
 pub oid-ok-spec : {M : Type 1} → statement M
 oid-ok-spec =
     tie.close
-    (tie.spec
-    Inv-loop
-    μ-loop
-    returns
-    loop-holds
-    (λ c κs. tt)
-    returns-2
-    add-k
-    loop-less
-    loop-again
-    returns-3)
+    (tie.spec Inv-loop μ-loop returns loop-holds (λ c κs. tt) returns-2 add-k loop-less loop-again returns-3)

@@ -18,9 +18,4 @@ returns-2 c =
 pub universal-ok-spec : {M : Type 1} → statement M
 universal-ok-spec =
     tie.close
-    (tie.spec
-    (λ c κs. tt)
-    (λ c κs. tt)
-    returns
-    (λ c κs. tt)
-    returns-2)
+    (tie.spec (λ c κs. tt) (λ c κs. tt) returns (λ c κs. tt) returns-2)

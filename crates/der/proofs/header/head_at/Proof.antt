@@ -49,17 +49,5 @@ returns-4 c =
 pub head-at-spec : {M : Type 1} → statement M
 head-at-spec =
     tie.close
-    (tie.spec
-    (λ c κs. tt)
-    shared-slice-read-tag
-    add-first
-    shared-slice-read-first
-    (λ c κs. tt)
-    (λ c κs. tt)
-    returns
-    (λ c κs. tt)
-    (λ c. search needs)
-    (λ c κs. tt)
-    returns-3
-    (λ c κs. tt)
-    returns-4)
+    (tie.spec (λ c κs. tt) shared-slice-read-tag add-first shared-slice-read-first (λ c κs. tt) (λ c κs. tt) returns
+    (λ c κs. tt) (λ c. search needs) (λ c κs. tt) returns-3 (λ c κs. tt) returns-4)

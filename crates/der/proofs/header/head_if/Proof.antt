@@ -45,12 +45,4 @@ returns-2 c =
 pub head-if-spec : {M : Type 1} → statement M
 head-if-spec =
     tie.close
-    (tie.spec
-    (λ c κs. tt)
-    (λ c κs. tt)
-    add-t11
-    add-t12
-    add-t13
-    returns
-    (λ c κs. tt)
-    returns-2)
+    (tie.spec (λ c κs. tt) (λ c κs. tt) add-t11 add-t12 add-t13 returns (λ c κs. tt) returns-2)

@@ -32,19 +32,5 @@ returns-4 c = rw (le-ltb _ _ (c .before .before .before .before .if1 .left), ←
 pub length-at-spec : {M : Type 1} → statement M
 length-at-spec =
     tie.close
-    (tie.spec
-    (λ c κs. tt)
-    returns
-    (λ c κs. tt)
-    (λ c κs. tt)
-    returns-2
-    (λ c κs. tt)
-    (λ c κs. tt)
-    (λ c. search needs)
-    (λ c κs. tt)
-    (λ c κs. tt)
-    (λ c. search needs)
-    returns-3
-    (λ c κs. tt)
-    (λ c κs. tt)
-    returns-4)
+    (tie.spec (λ c κs. tt) returns (λ c κs. tt) (λ c κs. tt) returns-2 (λ c κs. tt) (λ c κs. tt) (λ c. search needs)
+    (λ c κs. tt) (λ c κs. tt) (λ c. search needs) returns-3 (λ c κs. tt) (λ c κs. tt) returns-4)

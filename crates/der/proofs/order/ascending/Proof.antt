@@ -59,13 +59,4 @@ returns-2 c =
 pub ascending-spec : {M : Type 1} → statement M
 ascending-spec =
     tie.close
-    (tie.spec
-    Inv-loop
-    μ-loop
-    loop-holds
-    (λ c κs. tt)
-    (λ c κs. tt)
-    returns
-    loop-less
-    loop-again
-    returns-2)
+    (tie.spec Inv-loop μ-loop loop-holds (λ c κs. tt) (λ c κs. tt) returns loop-less loop-again returns-2)

@@ -66,16 +66,5 @@ returns-4 c =
 pub octets-le-spec : {M : Type 1} → statement M
 octets-le-spec =
     tie.close
-    (tie.spec
-    Inv-loop
-    μ-loop
-    loop-holds
-    returns
-    (λ c κs. tt)
-    (λ c κs. tt)
-    returns-2
-    returns-3
-    add-k
-    loop-less
-    loop-again
-    returns-4)
+    (tie.spec Inv-loop μ-loop loop-holds returns (λ c κs. tt) (λ c κs. tt) returns-2 returns-3 add-k loop-less
+    loop-again returns-4)

@@ -15,10 +15,4 @@ returns-2 c = rw (← c .before .before .before .judge-side .ensures, c .before 
 pub judge-both-spec : {M : Type 1} → statement M
 judge-both-spec =
     tie.close
-    (tie.spec
-    (λ c κs. tt)
-    (λ c. search needs)
-    (λ c. search needs)
-    (λ c κs. tt)
-    returns
-    returns-2)
+    (tie.spec (λ c κs. tt) (λ c. search needs) (λ c. search needs) (λ c κs. tt) returns returns-2)

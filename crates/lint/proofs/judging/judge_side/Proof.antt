@@ -21,13 +21,5 @@ returns-3 c = rw (← c .before .before .before .check-der .ensures, c .before .
 pub judge-side-spec : {M : Type 1} → statement M
 judge-side-spec =
     tie.close
-    (tie.spec
-    (λ c κs. tt)
-    (λ c. search needs)
-    (λ c κs. tt)
-    (λ c κs. tt)
-    (λ c. search needs)
-    (λ c. search needs)
-    returns
-    returns-2
-    returns-3)
+    (tie.spec (λ c κs. tt) (λ c. search needs) (λ c κs. tt) (λ c κs. tt) (λ c. search needs) (λ c. search needs)
+    returns returns-2 returns-3)

@@ -23,11 +23,4 @@ returns-2 c =
 pub lint-spec : {M : Type 1} → statement M
 lint-spec =
     tie.close
-    (tie.spec
-    (λ c κs. tt)
-    (λ c. search needs)
-    (λ c. search needs)
-    (λ c κs. tt)
-    returns
-    (λ c. search needs)
-    returns-2)
+    (tie.spec (λ c κs. tt) (λ c. search needs) (λ c. search needs) (λ c κs. tt) returns (λ c. search needs) returns-2)

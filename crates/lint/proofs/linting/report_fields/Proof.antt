@@ -33,15 +33,5 @@ returns-3 c =
 pub report-fields-spec : {M : Type 1} → statement M
 report-fields-spec =
     tie.close
-    (tie.spec
-    (λ c. search needs)
-    (λ c. search needs)
-    (λ c κs. tt)
-    (λ c κs. tt)
-    (λ c. search needs)
-    returns
-    (λ c κs. tt)
-    (λ c. search needs)
-    returns-2
-    (λ c. search needs)
-    returns-3)
+    (tie.spec (λ c. search needs) (λ c. search needs) (λ c κs. tt) (λ c κs. tt) (λ c. search needs) returns
+    (λ c κs. tt) (λ c. search needs) returns-2 (λ c. search needs) returns-3)

@@ -39,13 +39,5 @@ returns c = all-findings _ (c .before .loop .inv .1) (c .loop-test .left) (c .be
 pub finding-lines-spec : {M : Type 1} → statement M
 finding-lines-spec =
     tie.close
-    (tie.spec
-    Inv-loop
-    μ-loop
-    loop-holds
-    (λ c κs. search needs)
-    (λ c. search needs)
-    loop-less
-    loop-again
-    same-length
+    (tie.spec Inv-loop μ-loop loop-holds (λ c κs. search needs) (λ c. search needs) loop-less loop-again same-length
     returns)

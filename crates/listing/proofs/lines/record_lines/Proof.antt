@@ -16,12 +16,5 @@ returns-2 c = refused-lines _ _ (c .enum-told .given .1) (c .before .before .bef
 pub record-lines-spec : {M : Type 1} → statement M
 record-lines-spec =
     tie.close
-    (tie.spec
-    (λ c κs. search needs)
-    (λ c. search needs)
-    (λ c κs. search needs)
-    (λ c. search needs)
-    (λ c. search needs)
-    returns
-    (λ c. search needs)
-    returns-2)
+    (tie.spec (λ c κs. search needs) (λ c. search needs) (λ c κs. search needs) (λ c. search needs)
+    (λ c. search needs) returns (λ c. search needs) returns-2)

@@ -12,12 +12,5 @@ returns-2 c = rw (c .before .before .enum-told2 .given .1) (c .contents-are2 .en
 pub identifies-spec : {M : Type 1} → statement M
 identifies-spec =
     tie.close
-    (tie.spec
-    (λ c. search needs)
-    (λ c. search needs)
-    (λ c κs. tt)
-    (λ c. search needs)
-    (λ c. search needs)
-    (λ c κs. tt)
-    returns
-    returns-2)
+    (tie.spec (λ c. search needs) (λ c. search needs) (λ c κs. tt) (λ c. search needs) (λ c. search needs)
+    (λ c κs. tt) returns returns-2)

@@ -47,13 +47,4 @@ returns-2 c =
 pub has-octet-spec : {M : Type 1} → statement M
 has-octet-spec =
     tie.close
-    (tie.spec
-    Inv-loop
-    μ-loop
-    loop-holds
-    (λ c κs. tt)
-    returns
-    add-k
-    loop-less
-    loop-again
-    returns-2)
+    (tie.spec Inv-loop μ-loop loop-holds (λ c κs. tt) returns add-k loop-less loop-again returns-2)

@@ -72,16 +72,5 @@ returns-2 c =
 pub labels-ok-spec : {M : Type 1} → statement M
 labels-ok-spec =
     tie.close
-    (tie.spec
-    Inv-loop
-    μ-loop
-    loop-holds
-    (λ c κs. tt)
-    (λ c κs. tt)
-    returns
-    size-after-requires
-    add-k
-    loop-less
-    loop-again
-    (λ c κs. tt)
-    returns-2)
+    (tie.spec Inv-loop μ-loop loop-holds (λ c κs. tt) (λ c κs. tt) returns size-after-requires add-k loop-less
+    loop-again (λ c κs. tt) returns-2)

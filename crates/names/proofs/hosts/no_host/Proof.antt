@@ -30,10 +30,4 @@ returns-2 c =
 pub no-host-spec : {M : Type 1} → statement M
 no-host-spec =
     tie.close
-    (tie.spec
-    (λ c κs. tt)
-    (λ c κs. tt)
-    (λ c κs. tt)
-    (λ c κs. tt)
-    returns
-    returns-2)
+    (tie.spec (λ c κs. tt) (λ c κs. tt) (λ c κs. tt) (λ c κs. tt) returns returns-2)

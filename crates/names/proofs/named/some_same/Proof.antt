@@ -130,25 +130,6 @@ returns-2 c =
 pub some-same-spec : {M : Type 1} → statement M
 some-same-spec =
     tie.close
-    (tie.spec
-    Inv-loop
-    μ-loop
-    Inv-names
-    μ-names
-    names-holds
-    (λ c κs. tt)
-    (λ c κs. tt)
-    names-less
-    names-again
-    loop-holds
-    (λ c κs. tt)
-    (λ c κs. tt)
-    (λ c κs. tt)
-    (λ c κs. tt)
-    names-less-2
-    names-again-2
-    add-k
-    loop-less
-    loop-again
-    returns
-    returns-2)
+    (tie.spec Inv-loop μ-loop Inv-names μ-names names-holds (λ c κs. tt) (λ c κs. tt) names-less names-again
+    loop-holds (λ c κs. tt) (λ c κs. tt) (λ c κs. tt) (λ c κs. tt) names-less-2 names-again-2 add-k loop-less
+    loop-again returns returns-2)

@@ -51,13 +51,4 @@ returns-2 c =
 pub some-http-point-spec : {M : Type 1} → statement M
 some-http-point-spec =
     tie.close
-    (tie.spec
-    Inv-loop
-    μ-loop
-    loop-holds
-    (λ c κs. tt)
-    (λ c κs. tt)
-    returns
-    loop-less
-    loop-again
-    returns-2)
+    (tie.spec Inv-loop μ-loop loop-holds (λ c κs. tt) (λ c κs. tt) returns loop-less loop-again returns-2)

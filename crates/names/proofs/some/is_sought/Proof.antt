@@ -15,13 +15,5 @@ returns-3 c = rw (c .before .enum-told2 .given .1) (c .is-restriction .ensures)
 pub is-sought-spec : {M : Type 1} → statement M
 is-sought-spec =
     tie.close
-    (tie.spec
-    (λ c. search needs)
-    (λ c κs. tt)
-    (λ c. search needs)
-    (λ c κs. tt)
-    (λ c. search needs)
-    (λ c κs. tt)
-    returns
-    returns-2
-    returns-3)
+    (tie.spec (λ c. search needs) (λ c κs. tt) (λ c. search needs) (λ c κs. tt) (λ c. search needs) (λ c κs. tt)
+    returns returns-2 returns-3)

@@ -14,9 +14,4 @@ returns c =
 pub is-http-spec : {M : Type 1} → statement M
 is-http-spec =
     tie.close
-    (tie.spec
-    (λ c κs. tt)
-    (λ c κs. tt)
-    (λ c. search needs)
-    (λ c κs. tt)
-    returns)
+    (tie.spec (λ c κs. tt) (λ c κs. tt) (λ c. search needs) (λ c κs. tt) returns)

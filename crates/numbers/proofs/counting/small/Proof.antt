@@ -40,13 +40,4 @@ returns c =
 pub small-spec : {M : Type 1} → statement M
 small-spec =
     tie.close
-    (tie.spec
-    Inv-loop
-    μ-loop
-    loop-holds
-    (λ c κs. tt)
-    (λ c κs. tt)
-    (λ c. search needs)
-    loop-less
-    loop-again
-    returns)
+    (tie.spec Inv-loop μ-loop loop-holds (λ c κs. tt) (λ c κs. tt) (λ c. search needs) loop-less loop-again returns)

@@ -43,13 +43,4 @@ returns-2 c =
 pub all-ones-spec : {M : Type 1} → statement M
 all-ones-spec =
     tie.close
-    (tie.spec
-    Inv-loop
-    μ-loop
-    loop-holds
-    (λ c κs. tt)
-    returns
-    (λ c. search needs)
-    loop-less
-    loop-again
-    returns-2)
+    (tie.spec Inv-loop μ-loop loop-holds (λ c κs. tt) returns (λ c. search needs) loop-less loop-again returns-2)

@@ -28,14 +28,5 @@ returns-3 c =
 pub below-spec : {M : Type 1} → statement M
 below-spec =
     tie.close
-    (tie.spec
-    (λ c κs. tt)
-    (λ c κs. tt)
-    (λ c. search needs)
-    returns
-    (λ c. search needs)
-    (λ c κs. tt)
-    (λ c. search needs)
-    (λ c κs. search needs)
-    returns-2
-    returns-3)
+    (tie.spec (λ c κs. tt) (λ c κs. tt) (λ c. search needs) returns (λ c. search needs) (λ c κs. tt)
+    (λ c. search needs) (λ c κs. search needs) returns-2 returns-3)

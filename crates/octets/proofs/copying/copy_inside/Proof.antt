@@ -59,16 +59,5 @@ returns c =
 pub copy-inside-spec : {M : Type 1} → statement M
 copy-inside-spec =
     tie.close
-    (tie.spec
-    Inv-loop
-    μ-loop
-    loop-holds
-    add-out
-    shared-slice-read-out
-    add-out-2
-    slice-write-out
-    add-i
-    loop-less
-    loop-again
-    same-length
-    returns)
+    (tie.spec Inv-loop μ-loop loop-holds add-out shared-slice-read-out add-out-2 slice-write-out add-i loop-less
+    loop-again same-length returns)

@@ -55,16 +55,5 @@ returns c =
 pub number-spec : {M : Type 1} → statement M
 number-spec =
     tie.close
-    (tie.spec
-    Inv-loop
-    μ-loop
-    (λ c κs. tt)
-    (λ c κs. tt)
-    loop-holds
-    add-octet-past
-    (λ c κs. tt)
-    (λ c κs. tt)
-    add-k
-    loop-less
-    loop-again
-    returns)
+    (tie.spec Inv-loop μ-loop (λ c κs. tt) (λ c κs. tt) loop-holds add-octet-past (λ c κs. tt) (λ c κs. tt) add-k
+    loop-less loop-again returns)

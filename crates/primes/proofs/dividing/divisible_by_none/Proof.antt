@@ -16,8 +16,4 @@ returns c = rw table-right (c .none-divides .ensures)
 pub divisible-by-none-spec : {M : Type 1} → statement M
 divisible-by-none-spec =
     tie.close
-    (tie.spec
-    (λ c. search needs)
-    (λ c. search needs)
-    none-divides-requires
-    returns)
+    (tie.spec (λ c. search needs) (λ c. search needs) none-divides-requires returns)

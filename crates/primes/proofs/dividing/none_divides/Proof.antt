@@ -89,20 +89,5 @@ returns-2 c =
 pub none-divides-spec : {M : Type 1} → statement M
 none-divides-spec =
     tie.close
-    (tie.spec
-    Inv-loop
-    μ-loop
-    loop-holds
-    mul-m
-    shared-slice-read-m
-    cast-m
-    renew-requires
-    (λ c. search needs)
-    (λ c. search needs)
-    cast-if1
-    rem-if1
-    returns
-    (λ c. search needs)
-    loop-less
-    loop-again
-    returns-2)
+    (tie.spec Inv-loop μ-loop loop-holds mul-m shared-slice-read-m cast-m renew-requires (λ c. search needs)
+    (λ c. search needs) cast-if1 rem-if1 returns (λ c. search needs) loop-less loop-again returns-2)

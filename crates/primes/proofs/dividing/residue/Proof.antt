@@ -69,20 +69,5 @@ returns c =
 pub residue-spec : {M : Type 1} → statement M
 residue-spec =
     tie.close
-    (tie.spec
-    Inv-loop
-    μ-loop
-    rem-a
-    mul-b
-    rem-b
-    (λ c κs. tt)
-    add-i
-    (λ c κs. tt)
-    loop-holds
-    (λ c κs. tt)
-    step-requires
-    add-i-2
-    loop-less
-    loop-again
-    rem-result
-    returns)
+    (tie.spec Inv-loop μ-loop rem-a mul-b rem-b (λ c κs. tt) add-i (λ c κs. tt) loop-holds (λ c κs. tt) step-requires
+    add-i-2 loop-less loop-again rem-result returns)

@@ -14,10 +14,4 @@ returns-3 c = rw (c .if1 .left)
 pub mark-of-spec : {M : Type 1} → statement M
 mark-of-spec =
     tie.close
-    (tie.spec
-    (λ c κs. tt)
-    (λ c κs. tt)
-    returns
-    (λ c κs. tt)
-    returns-2
-    returns-3)
+    (tie.spec (λ c κs. tt) (λ c κs. tt) returns (λ c κs. tt) returns-2 returns-3)

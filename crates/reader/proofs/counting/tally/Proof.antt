@@ -85,21 +85,6 @@ returns c =
 pub tally-spec : {M : Type 1} → statement M
 tally-spec =
     tie.close
-    (tie.spec
-    Inv-loop
-    μ-loop
-    loop-holds
-    (λ c κs. tt)
-    (λ c. search needs)
-    add-records
-    (λ c κs. tt)
-    add-position
-    loop-less
-    loop-again
-    (λ c. search needs)
-    add-lost
-    add-position-2
-    loop-less-2
-    loop-again-2
-    (λ c. search needs)
+    (tie.spec Inv-loop μ-loop loop-holds (λ c κs. tt) (λ c. search needs) add-records (λ c κs. tt) add-position
+    loop-less loop-again (λ c. search needs) add-lost add-position-2 loop-less-2 loop-again-2 (λ c. search needs)
     returns)

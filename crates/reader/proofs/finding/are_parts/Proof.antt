@@ -70,15 +70,5 @@ returns-2 c =
 pub are-parts-spec : {M : Type 1} → statement M
 are-parts-spec =
     tie.close
-    (tie.spec
-    Inv-loop
-    μ-loop
-    loop-holds
-    add-block-at
-    (λ c κs. tt)
-    (λ c κs. tt)
-    returns
-    add-j
-    loop-less
-    loop-again
+    (tie.spec Inv-loop μ-loop loop-holds add-block-at (λ c κs. tt) (λ c κs. tt) returns add-j loop-less loop-again
     returns-2)

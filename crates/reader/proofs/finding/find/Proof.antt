@@ -77,14 +77,5 @@ returns-5 c = sym (lost (c .before .before .before) _ (whole (c .before) ∙ ap 
 pub find-spec : {M : Type 1} → statement M
 find-spec =
     tie.close
-    (tie.spec
-    (λ c κs. tt)
-    returns
-    is-start-requires
-    (λ c κs. tt)
-    (λ c κs. tt)
-    returns-2
-    returns-3
-    (λ c κs. tt)
-    returns-4
-    returns-5)
+    (tie.spec (λ c κs. tt) returns is-start-requires (λ c κs. tt) (λ c κs. tt) returns-2 returns-3 (λ c κs. tt)
+    returns-4 returns-5)

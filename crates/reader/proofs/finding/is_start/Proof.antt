@@ -101,22 +101,6 @@ returns-3 c =
 pub is-start-spec : {M : Type 1} → statement M
 is-start-spec =
     tie.close
-    (tie.spec
-    (λ c κs. tt)
-    (λ c κs. tt)
-    (λ c κs. tt)
-    (λ c κs. tt)
-    returns
-    (λ c κs. tt)
-    (λ c κs. search needs)
-    returns-2
-    sub-block-at
-    (λ c. search needs)
-    (λ c κs. tt)
-    sub-is-filled
-    (λ c. search needs)
-    (λ c. search needs)
-    (λ c κs. tt)
-    (λ c κs. tt)
-    sub-result
-    returns-3)
+    (tie.spec (λ c κs. tt) (λ c κs. tt) (λ c κs. tt) (λ c κs. tt) returns (λ c κs. tt) (λ c κs. search needs)
+    returns-2 sub-block-at (λ c. search needs) (λ c κs. tt) sub-is-filled (λ c. search needs) (λ c. search needs)
+    (λ c κs. tt) (λ c κs. tt) sub-result returns-3)

@@ -61,17 +61,5 @@ returns c =
 pub gather-spec : {M : Type 1} → statement M
 gather-spec =
     tie.close
-    (tie.spec
-    Inv-loop
-    μ-loop
-    loop-holds
-    add-copy
-    mul-copy
-    add-copy-2
-    mul-copy-2
-    (λ c κs. tt)
-    add-j
-    loop-less
-    loop-again
-    same-length
-    returns)
+    (tie.spec Inv-loop μ-loop loop-holds add-copy mul-copy add-copy-2 mul-copy-2 (λ c κs. tt) add-j loop-less
+    loop-again same-length returns)

@@ -38,11 +38,5 @@ returns c =
 pub lint-record-spec : {M : Type 1} → statement M
 lint-record-spec =
     tie.close
-    (tie.spec
-    (λ c κs. tt)
-    (λ c. search needs)
-    gather-requires
-    (λ c. search needs)
-    lint-desk-requires
-    (λ c. search needs)
-    returns)
+    (tie.spec (λ c κs. tt) (λ c. search needs) gather-requires (λ c. search needs) lint-desk-requires
+    (λ c. search needs) returns)

@@ -33,13 +33,5 @@ returns-3 c =
 pub step-spec : {M : Type 1} → statement M
 step-spec =
     tie.close
-    (tie.spec
-    (λ c κs. tt)
-    (λ c. search needs)
-    lint-record-requires
-    (λ c. search needs)
-    (λ c. search needs)
-    (λ c. search needs)
-    returns
-    returns-2
-    returns-3)
+    (tie.spec (λ c κs. tt) (λ c. search needs) lint-record-requires (λ c. search needs) (λ c. search needs)
+    (λ c. search needs) returns returns-2 returns-3)

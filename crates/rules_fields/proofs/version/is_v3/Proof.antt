@@ -13,8 +13,4 @@ returns-2 c = rw (ne-eqb _ _ (c .if1 .left))
 pub is-v3-spec : {M : Type 1} → statement M
 is-v3-spec =
     tie.close
-    (tie.spec
-    (λ c. search needs)
-    (λ c κs. tt)
-    returns
-    returns-2)
+    (tie.spec (λ c. search needs) (λ c κs. tt) returns returns-2)

@@ -48,19 +48,5 @@ returns c = digit-last (c .before .loop .inv) (c .loop-test .left)
 pub digits-spec : {M : Type 1} → statement M
 digits-spec =
     tie.close
-    (tie.spec
-    Inv-loop
-    μ-loop
-    loop-holds
-    sub-i
-    (λ c. search needs)
-    cast-space
-    slice-write-space
-    loop-less
-    loop-again
-    sub-i-2
-    (λ c. search needs)
-    cast-space-2
-    slice-write-space-2
-    same-length
-    returns)
+    (tie.spec Inv-loop μ-loop loop-holds sub-i (λ c. search needs) cast-space slice-write-space loop-less loop-again
+    sub-i-2 (λ c. search needs) cast-space-2 slice-write-space-2 same-length returns)

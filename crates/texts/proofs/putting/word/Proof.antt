@@ -38,14 +38,5 @@ returns c = put-all (c .before .before .before .before .args .text .now) (c .bef
 pub word-spec : {M : Type 1} → statement M
 word-spec =
     tie.close
-    (tie.spec
-    Inv-loop
-    μ-loop
-    loop-holds
-    (λ c. search needs)
-    (λ c κs. tt)
-    (λ c. search needs)
-    loop-less
-    loop-again
-    same-length
-    returns)
+    (tie.spec Inv-loop μ-loop loop-holds (λ c. search needs) (λ c κs. tt) (λ c. search needs) loop-less loop-again
+    same-length returns)

@@ -36,14 +36,5 @@ returns c =
 pub before-month-spec : {M : Type 1} → statement M
 before-month-spec =
     tie.close
-    (tie.spec
-    Inv-loop
-    μ-loop
-    loop-holds
-    (λ c κs. tt)
-    (λ c κs. tt)
-    (λ c. search needs)
-    (λ c. search needs)
-    loop-less
-    loop-again
-    returns)
+    (tie.spec Inv-loop μ-loop loop-holds (λ c κs. tt) (λ c κs. tt) (λ c. search needs) (λ c. search needs) loop-less
+    loop-again returns)

@@ -52,14 +52,5 @@ returns-2 c =
 pub digits-first-spec : {M : Type 1} → statement M
 digits-first-spec =
     tie.close
-    (tie.spec
-    Inv-loop
-    μ-loop
-    loop-holds
-    (λ c κs. tt)
-    (λ c κs. tt)
-    returns
-    (λ c. search needs)
-    loop-less
-    loop-again
+    (tie.spec Inv-loop μ-loop loop-holds (λ c κs. tt) (λ c κs. tt) returns (λ c. search needs) loop-less loop-again
     returns-2)

@@ -23,13 +23,5 @@ returns-3 c = let r = c .match .rest in rw (ne-eqb _ 23 (r .0 .1), ne-eqb _ 24 (
 pub read-time-spec : {M : Type 1} → statement M
 read-time-spec =
     tie.close
-    (tie.spec
-    (λ c κs. tt)
-    (λ c κs. tt)
-    (λ c κs. tt)
-    (λ c κs. tt)
-    (λ c κs. tt)
-    (λ c κs. tt)
-    returns
-    returns-2
+    (tie.spec (λ c κs. tt) (λ c κs. tt) (λ c κs. tt) (λ c κs. tt) (λ c κs. tt) (λ c κs. tt) returns returns-2
     returns-3)

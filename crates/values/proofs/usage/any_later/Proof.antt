@@ -48,14 +48,4 @@ returns-2 c =
 pub any-later-spec : {M : Type 1} → statement M
 any-later-spec =
     tie.close
-    (tie.spec
-    Inv-loop
-    μ-loop
-    loop-holds
-    (λ c κs. tt)
-    (λ c κs. tt)
-    returns
-    add-k
-    loop-less
-    loop-again
-    returns-2)
+    (tie.spec Inv-loop μ-loop loop-holds (λ c κs. tt) (λ c κs. tt) returns add-k loop-less loop-again returns-2)

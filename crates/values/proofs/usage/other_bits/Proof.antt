@@ -25,10 +25,4 @@ returns-3 c =
 pub other-bits-spec : {M : Type 1} → statement M
 other-bits-spec =
     tie.close
-    (tie.spec
-    returns
-    (λ c κs. tt)
-    (λ c κs. tt)
-    returns-2
-    (λ c κs. tt)
-    returns-3)
+    (tie.spec returns (λ c κs. tt) (λ c κs. tt) returns-2 (λ c κs. tt) returns-3)

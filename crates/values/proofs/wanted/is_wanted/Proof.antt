@@ -15,13 +15,5 @@ returns-3 c = rw (c .before .enum-told .given .1) (c .policy-below .ensures)
 pub is-wanted-spec : {M : Type 1} → statement M
 is-wanted-spec =
     tie.close
-    (tie.spec
-    (λ c. search needs)
-    (λ c κs. tt)
-    (λ c. search needs)
-    (λ c κs. tt)
-    (λ c. search needs)
-    (λ c κs. tt)
-    returns
-    returns-2
-    returns-3)
+    (tie.spec (λ c. search needs) (λ c κs. tt) (λ c. search needs) (λ c κs. tt) (λ c. search needs) (λ c κs. tt)
+    returns returns-2 returns-3)

@@ -37,14 +37,5 @@ returns c =
 pub lay-out-spec : {M : Type 1} → statement M
 lay-out-spec =
     tie.close
-    (tie.spec
-    (λ c. search needs)
-    (λ c. search needs)
-    slice-write-desk-2
-    (λ c. search needs)
-    slice-write-desk-3
-    (λ c κs. tt)
-    (λ c. search needs)
-    (λ c κs. tt)
-    same-length
-    returns)
+    (tie.spec (λ c. search needs) (λ c. search needs) slice-write-desk-2 (λ c. search needs) slice-write-desk-3
+    (λ c κs. tt) (λ c. search needs) (λ c κs. tt) same-length returns)

@@ -70,18 +70,5 @@ returns c =
 pub put-blocks-spec : {M : Type 1} → statement M
 put-blocks-spec =
     tie.close
-    (tie.spec
-    Inv-loop
-    μ-loop
-    loop-holds
-    mul-at
-    add-end
-    sub-put-block
-    part-put-block-start
-    part-put-block-end
-    put-block-requires
-    add-part
-    loop-less
-    loop-again
-    same-length
-    returns)
+    (tie.spec Inv-loop μ-loop loop-holds mul-at add-end sub-put-block part-put-block-start part-put-block-end
+    put-block-requires add-part loop-less loop-again same-length returns)

@@ -47,12 +47,5 @@ returns c =
 pub put-record-spec : {M : Type 1} → statement M
 put-record-spec =
     tie.close
-    (tie.spec
-    add-n
-    add-n-2
-    slice-aggregate-lay-out
-    lay-out-requires
-    slice-aggregate-put-blocks
-    put-blocks-requires
-    same-length
-    returns)
+    (tie.spec add-n add-n-2 slice-aggregate-lay-out lay-out-requires slice-aggregate-put-blocks put-blocks-requires
+    same-length returns)

@@ -97,17 +97,5 @@ returns-4 c =
 pub write-record-spec : {M : Type 1} → statement M
 write-record-spec =
     tie.close
-    (tie.spec
-    (λ c κs. tt)
-    (λ c. search needs)
-    returns
-    (λ c. search needs)
-    returns-2
-    add-parts-of
-    add-parts-of-2
-    (λ c κs. tt)
-    mul-if2
-    returns-3
-    put-record-requires
-    same-length
-    returns-4)
+    (tie.spec (λ c κs. tt) (λ c. search needs) returns (λ c. search needs) returns-2 add-parts-of add-parts-of-2
+    (λ c κs. tt) mul-if2 returns-3 put-record-requires same-length returns-4)
