@@ -40,7 +40,7 @@ use Rattle.certificate.proofs.Laws.Slots.{start-at}
 use Rattle.der.specs.Members.{membersIn}
 use Rattle.report.specs.Order.{In}
 use Rattle.report.specs.declared.sink.Entry.{Entry}
-use Rattle.rules_extensions.specs.Slots.{listPlace, isPresent, differs, extensionFrom, rule300, rule320, rule340, overSlots}
+use Rattle.rules_extensions.specs.Slots.{listPlace, holdsJudged, differs, extensionFrom, rule300, rule320, rule340, overSlots}
 use Rattle.rules_extensions.specs.Identifiers.{identifierFindings}
 use Rattle.rules_extensions.specs.Rules.{extensionFindings}
 use Rattle.rules_extensions.proofs.Laws.Slots.{slots-in}
@@ -123,9 +123,9 @@ module _ (s : List ℕ) (e : certificateVerdict s ≡ Fits) where
         rw is (start-among s slot chain (λ z. n (is ∙ z)))
 
     -- where a rule judges it
-    present-extension : (p : Profile) (rest : Bool) → (isPresent p start slot && rest) ≡ true → StandsAt s start (list .end) (extensionsOf s)
+    present-extension : (p : Profile) (rest : Bool) → (holdsJudged p start slot && rest) ≡ true → StandsAt s start (list .end) (extensionsOf s)
     present-extension p rest t =
-        let there = and-l (not (eqb start 0)) (isJudged (markOf p slot)) (and-l (isPresent p start slot) rest t) in
+        let there = and-l (not (eqb start 0)) (isJudged (markOf p slot)) (and-l (holdsJudged p start slot) rest t) in
         slot-extension (eqb-false start 0 (not-true (eqb start 0) there))
 
   -- ---- rules 301 to 363
@@ -147,7 +147,7 @@ module _ (s : List ℕ) (e : certificateVerdict s ≡ Fits) where
     criticality-at slot l =
         let start = getD (startsIn s) slot 0 in
         let other = differs (extensionFrom s (certificateOf s) start .critical) (mustBeCritical p slot) in
-        noted-at _ (isPresent p start slot && other) _
+        noted-at _ (holdsJudged p start slot && other) _
         (λ t. let x = present-extension slot l p other t in same-element (x .is) (in-list (x .element) (x .listed)))
 
     value-at : (slot : ℕ) → slot < 11 → AtElements s (rule340 p s (certificateOf s) (startsIn s) (valuesIn s) slot)
@@ -155,7 +155,7 @@ module _ (s : List ℕ) (e : certificateVerdict s ≡ Fits) where
     value-at slot l =
         let start = getD (startsIn s) slot 0 in
         let bad = eqb (getD (valuesIn s) slot 0) 0 in
-        noted-at _ (isPresent p start slot && bad) _
+        noted-at _ (holdsJudged p start slot && bad) _
         (λ t. let x = present-extension slot l p bad t in same-element (ap (octetString s) (x .is)) (value-element (x .element) (x .listed)))
 
     pub extensions-at : AtElements s (extensionFindings p s (certificateOf s) (startsIn s) (valuesIn s))
