@@ -16,8 +16,10 @@ returns c =
     let differ = stranger .before in
     let outer = differ .before in
     let inner = outer .before in
-    rw (← stranger .same-element2 .ensures, ← differ .same-element .ensures, ← outer .is-sha256-rsa2 .ensures, ← inner .is-sha256-rsa .ensures)
-    (first .note .ensures ⨾ second .note2 .ensures ⨾ third .note3 .ensures ⨾ fourth .note4 .ensures)
+    rw (inner .is-sha256-rsa .ensures) at (first .note .ensures)
+    ⨾ rw (outer .is-sha256-rsa2 .ensures) at (second .note2 .ensures)
+    ⨾ rw (differ .same-element .ensures) at (third .note3 .ensures)
+    ⨾ rw (stranger .same-element2 .ensures) at (fourth .note4 .ensures)
 
 pub algorithms-and-name-spec : {M : Type 1} → statement M
 algorithms-and-name-spec =

@@ -4,7 +4,10 @@ use Rattle.rules_key.proofs.parameters.is_curve.Statement.{statement}
 use Rattle.rules_key.proofs.parameters.is_curve.Tie as tie
 
 returns : tie.Need-returns
-returns c = cc
+returns c =
+    let p384 = c .before .before in
+    let p256 = p384 .before .before in
+    rw (p256 .is-exactly .ensures, p384 .is-exactly2 .ensures, c .is-exactly3 .ensures)
 
 pub is-curve-spec : {M : Type 1} → statement M
 is-curve-spec =
