@@ -7,7 +7,7 @@ returns : tie.Need-returns
 returns c =
     let p384 = c .before .before in
     let p256 = p384 .before .before in
-    rw (p256 .is-exactly .ensures, p384 .is-exactly2 .ensures, c .is-exactly3 .ensures)
+    rw (p256 .octets-are .ensures, p384 .octets-are2 .ensures, c .octets-are3 .ensures)
 
 pub is-curve-spec : {M : Type 1} → statement M
 is-curve-spec =
