@@ -1,16 +1,12 @@
 -- "Block: octets 0–3 record number, 4–5 record length N, 6 part, 7 zero, 8–509 data, 510–511 check; high octet first" (document 01, "The deck").
 use mathlib.Core.Bool.{Bool}
 use mathlib.Core.List.{List, [], _∷_, _++_}
-use Prim.Native.Nat.{ℕ, suc, _+_, _*_, _%_, _<_}
+use Prim.Native.Nat.{ℕ, suc, _+_, _*_, _%_}
 use lib.Dec.{eqb}
 use lib.ListN.{length, take, drop}
+use Rattle.blocks.specs.Tests.{_and_}
 use Rattle.octets.specs.Octets.{octetAt}
 use Rattle.octets.specs.Numbers.{pairAt, pairOf, quadAt, quadOf}
-use Rattle.blocks.specs.Tests.{_and_}
-
--- each is an octet
-abbrev pub Octets : List ℕ → Type 0
-Octets b = (i : ℕ) → octetAt b i < 256
 
 -- ---- the fields
 

@@ -6,6 +6,7 @@ pub mod Order
 pub mod Children
 pub mod Members
 pub mod Any
+pub mod Searching
 pub mod Walks
 pub mod Walking
 pub mod Places

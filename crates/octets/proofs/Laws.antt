@@ -6,3 +6,4 @@ pub mod Numbers
 pub mod Same
 pub mod Places
 pub mod Copying
+pub mod Writing

@@ -5,10 +5,10 @@ use mathlib.Core.Logic.{_↔_}
 use mathlib.Core.List.{List, [], _++_}
 use Prim.Native.Nat.{ℕ, _-_, _≤_}
 use lib.ListN.{length}
-use Rattle.trees.specs.Trees.{Tree, encode, Octets, Good, height, Ordered}
+use Rattle.trees.specs.Trees.{Tree, encode, Good, height, Ordered}
 use Rattle.trees.specs.Reading.{parse}
 use Rattle.trees.specs.Outline.{outlineOf, outline, Rises}
-use Rattle.octets.specs.Octets.{octetsFrom}
+use Rattle.octets.specs.Octets.{Octets, octetsFrom}
 use Rattle.der.specs.Soundness.{stretchSoundness, derSoundness, refusalNumber}
 use Rattle.der.specs.declared.walk.Soundness.{Soundness}
 use Rattle.der.specs.declared.walk.Soundness.the-variants.{Sound}

@@ -5,7 +5,7 @@ use mathlib.Core.Bool.{true, false, cond}
 use Prim.Native.Nat.{ℕ, zero, suc, _+_, _*_, _-_, _%_, _/_, _<_, max}
 use lib.ListN.{length}
 use lib.Dec.{ltb}
-use Rattle.octets.specs.Octets.{octetAt}
+use Rattle.octets.specs.Octets.{Octets}
 use Rattle.der.specs.Contents.{holdsElements, primitiveOk}
 use Rattle.der.specs.Order.{octetsLe}
 
@@ -71,9 +71,6 @@ unfoldable mutual
   encodeAll (t then ts) = encode t ++ encodeAll ts
 
 -- ---- what is asked of them
-
-abbrev pub Octets : List ℕ → Type 0
-Octets s = (i : ℕ) → octetAt s i < 256
 
 -- universal 0 is for end-of-contents octets, which belong to the indefinite form (8.1.5)
 abbrev pub reserved : Tag

@@ -18,7 +18,8 @@ use lib.Seq.{take-set-le, take-set-lt, getD-set-same, getD-set-other, getD-take,
 use borrow.Author.Count.{below-none, below-more}
 use borrow.Author.Tests.{eqb-true, eqb-false, not-true}
 use Rattle.blocks.specs.Tests.{_and_}
-use Rattle.blocks.specs.Block.{Octets, weigh, checkOf, sound}
+use Rattle.blocks.specs.Block.{weigh, checkOf, sound}
+use Rattle.octets.specs.Octets.{Octets}
 use Rattle.octets.specs.Numbers.{pairAt}
 use Rattle.blocks.proofs.Laws.Logic.{and-left, and-right, below-or-not}
 use Rattle.blocks.proofs.Laws.Weigh.{weigh-set}

@@ -2,11 +2,10 @@
 --     forward                    an element ends after it starts, and within its list
 --     any-done                   none left
 --     any-next                   the first, which is h, or one of those after it
---     any-found, any-missed      by what the test says of h
 -- Assumes nothing.
-use mathlib.Core.Path.{_≡_, ap, _∙_}
+use mathlib.Core.Path.{_≡_}
 use mathlib.Core.List.{List}
-use mathlib.Core.Bool.{Bool, true, false, _||_}
+use mathlib.Core.Bool.{Bool, false, _||_}
 use Prim.Native.Nat.{ℕ, _≤_, _<_}
 use Rattle.der.specs.Header.{headOf, childrenOf}
 use Rattle.der.specs.Elements.{anyOf}
@@ -25,9 +24,3 @@ module _ (test : Head → Bool) (s : List ℕ) (at end : ℕ) (h : Head) (l : at
   pub any-next : anyOf test (childrenOf s at end) ≡ (test h || anyOf test (childrenOf s (h .end) end))
   unfolding anyOf
   any-next = rw (children-next s at end l, e)
-
-  pub any-found : test h ≡ true → anyOf test (childrenOf s at end) ≡ true
-  any-found f = any-next ∙ ap (λ (b : Bool). b || anyOf test (childrenOf s (h .end) end)) f
-
-  pub any-missed : test h ≡ false → anyOf test (childrenOf s at end) ≡ anyOf test (childrenOf s (h .end) end)
-  any-missed f = any-next ∙ ap (λ (b : Bool). b || anyOf test (childrenOf s (h .end) end)) f

@@ -14,7 +14,7 @@ use lib.Dec.{ltb}
 use Rattle.listing.specs.Lines.{findingLine, refusalText, answerText, recordLine, lostLine, totalLine, tooLongLine}
 use Rattle.listing.specs.Listing.{findingLines, entriesOf, recordLines, itemLines}
 use Rattle.texts.specs.Texts.{word, decimal}
-use Rattle.octets.specs.Octets.{octetAt}
+use Rattle.octets.specs.Octets.{Octets}
 use Rattle.report.specs.Entries.{width, entryOf, decode}
 use Rattle.report.specs.declared.sink.Entry.{Entry}
 use Rattle.lint.specs.Refusals.{numberOf, sideNumber, sideOf, placeOf}
@@ -23,8 +23,7 @@ use Rattle.lint.proofs.Laws.Bounds.{count-fits}
 use Rattle.lint.specs.declared.refusals.Side.{Side}
 use Rattle.lint.specs.declared.refusals.Side.the-variants.{Certificate, Issuer}
 use Rattle.lint.specs.declared.refusals.Refusal.{Refusal}
-use Rattle.lint.specs.declared.refusals.Refusal.the-variants.{CertificateLength, IssuerLength, UnknownProfile}
-use Rattle.lint.specs.declared.refusals.Refusal.the-variants.{Unsound, Unordered, NotCertificate, NoRoom, NoNumber}
+use Rattle.lint.specs.declared.refusals.Refusal.the-variants.{CertificateLength, IssuerLength, UnknownProfile, Unsound, Unordered, NotCertificate, NoRoom, NoNumber}
 use Rattle.lint.specs.declared.linting.Answer.{Answer}
 use Rattle.lint.specs.declared.linting.Answer.the-variants.{Report, Refused}
 use Rattle.reader.specs.declared.finding.Loss.{Loss}
@@ -110,9 +109,6 @@ record-long r n p h =
 -- ---- all lines of an item
 
 -- each is an octet
-abbrev Octets : List ℕ → Type 0
-Octets s = (i : ℕ) → octetAt s i < 256
-
 pub findings-long : (k : ℕ) (s : List ℕ) → Octets s → length (findingLines (decode k s)) ≤ 30 * k
 unfolding findingLines
 findings-long zero s o = rw (decode-none s) (omega arith)

@@ -14,9 +14,9 @@ use lib.Dec.{ltb, eqb}
 use borrow.Author.Tests.{lt-ltb, le-ltb, eq-eqb, ne-eqb, eqb-true, eqb-false}
 use Rattle.numbers.specs.Numbers.{number, isOdd}
 use Rattle.numbers.specs.Leading.{leadOf, allOnes}
-use Rattle.octets.specs.Octets.{octetAt, octetsFrom}
+use Rattle.octets.specs.Octets.{Octets, octetAt, octetsFrom}
 use Rattle.octets.specs.Numbers.{numberFrom}
-use Rattle.numbers.proofs.Laws.Values.{Bytes, octets-none, octets-first, pow-octet, value-top, value-below, number-top, number-below, number-none}
+use Rattle.numbers.proofs.Laws.Values.{octets-none, octets-first, pow-octet, value-top, value-below, number-top, number-below, number-none}
 use Rattle.numbers.proofs.Laws.Leading.{leads}
 
 parity : (s : List ℕ) (n i m : ℕ) → numberFrom m (octetsFrom s i (suc n)) % 2 ≡ octetAt s (i + n) % 2
@@ -68,7 +68,7 @@ not-255 : (b : ℕ) → b < 256 → (b ≡ 255 → ⊥) → b + 1 ≤ 255
 not-255 b h f = omega arith
 
 -- where some octet is not 255
-less-numberFrom : (s : List ℕ) → Bytes s → (n i : ℕ) → allOnes (octetsFrom s i n) ≡ false → numberFrom 0 (octetsFrom s i n) + 1 < 2 ^ (8 * n)
+less-numberFrom : (s : List ℕ) → Octets s → (n i : ℕ) → allOnes (octetsFrom s i n) ≡ false → numberFrom 0 (octetsFrom s i n) + 1 < 2 ^ (8 * n)
 unfolding allOnes octetsFrom numberFrom
 less-numberFrom s h zero i e = absurd (never (sym e))
 less-numberFrom s h (suc n) i e = go (less-numberFrom s h n (i + 1)) (eqb (octetAt s i) 255) refl e
@@ -93,7 +93,7 @@ under v a c h l = omega (arith, pow-pos a, grown)
     grown : 2 * 2 ^ a ≤ 2 ^ c
     grown = le-trans (omega (arith, pow-add 2 a 1)) (pow-mono l)
 
-module _ (s : List ℕ) (body end p : ℕ) (h : Bytes s) (e : p ≡ leadOf s body end) where
+module _ (s : List ℕ) (body end p : ℕ) (h : Octets s) (e : p ≡ leadOf s body end) where
   pub max-short : (c : ℕ) → end - p < c → true ≡ ltb (number s body end) (2 ^ (8 * c) - 1)
   max-short c l =
       rw (← leads s body end p e .same)

@@ -15,11 +15,11 @@ use lib.IntN.{pos, subℕ}
 use borrow.Author.Tests.{lt-ltb, ltb-true, ltb-false}
 use Rattle.numbers.specs.Numbers.{number, isPositive}
 use Rattle.numbers.specs.Leading.{leadOf}
-use Rattle.octets.specs.Octets.{octetAt, octetsFrom}
+use Rattle.octets.specs.Octets.{Octets, octetAt, octetsFrom}
 use Rattle.octets.specs.Numbers.{numberFrom}
 use Rattle.octets.proofs.Laws.Octets.{octets-long}
 use Rattle.der.specs.Integers.{integerOf}
-use Rattle.numbers.proofs.Laws.Values.{Bytes, ltb-same, octets-none, octets-first, pow-octet, number-top, number-below, number-none}
+use Rattle.numbers.proofs.Laws.Values.{ltb-same, octets-none, octets-first, pow-octet, number-top, number-below, number-none}
 use Rattle.numbers.proofs.Laws.Leading.{leads}
 
 pow-256 : (n : ℕ) → 256 ^ n ≡ 2 ^ (8 * n)
@@ -29,7 +29,7 @@ pow-256 (suc n) =
     ap (λ (m : ℕ). 256 ^ m) e ∙ pow-add 256 1 n ∙ ap (λ (m : ℕ). 256 * m) (pow-256 n) ∙ sym (pow-octet n)
 
 -- p is the place of the first octet that is not 0
-module _ (s : List ℕ) (body end p : ℕ) (h : Bytes s) (e : p ≡ leadOf s body end) where
+module _ (s : List ℕ) (body end p : ℕ) (h : Octets s) (e : p ≡ leadOf s body end) where
   some-octet : p < end → 0 < number s p end
   some-octet l =
       rw (number-top s p end l)
@@ -62,7 +62,7 @@ module _ (s : List ℕ) (body end p : ℕ) (h : Bytes s) (e : p ≡ leadOf s bod
           rw f (sign (ltb (octetAt s body) 128) (ltb p end) _ _ (rw f at above-zero) (rw f at less))
       go false t = let f = octets-none s body end (ltb-false body end t) in rw (above-zero, f)
 
-pub positive-number : (s : List ℕ) (body end : ℕ) → Bytes s → isPositive (integerOf (octetsFrom s body (end - body))) ≡ true
+pub positive-number : (s : List ℕ) (body end : ℕ) → Octets s → isPositive (integerOf (octetsFrom s body (end - body))) ≡ true
     → integerOf (octetsFrom s body (end - body)) ≡ pos (number s body end)
 unfolding integerOf numberFrom
 positive-number s body end h t = go (ltb body end) refl

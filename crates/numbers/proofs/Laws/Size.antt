@@ -13,12 +13,12 @@ use lib.Dec.{ltb, leb}
 use borrow.Author.Tests.{lt-ltb, le-ltb, le-leb, lt-leb, ltb-true, ltb-false}
 use Rattle.numbers.specs.Numbers.{number, hasBits}
 use Rattle.numbers.specs.Leading.{leadOf}
-use Rattle.octets.specs.Octets.{octetAt}
-use Rattle.numbers.proofs.Laws.Values.{Bytes, ltb-same, number-top, number-below}
+use Rattle.octets.specs.Octets.{Octets, octetAt}
+use Rattle.numbers.proofs.Laws.Values.{ltb-same, number-top, number-below}
 use Rattle.numbers.proofs.Laws.Leading.{leads}
 
 -- the number has end - p octets, from the first that is not 0 on
-module _ (s : List ℕ) (body end p k : ℕ) (h : Bytes s) (e : p ≡ leadOf s body end) where
+module _ (s : List ℕ) (body end p k : ℕ) (h : Octets s) (e : p ≡ leadOf s body end) where
   pub below-short : end - p ≤ k / 8 → true ≡ ltb (number s body end) (2 ^ k)
   below-short l =
       rw (← leads s body end p e .same)

@@ -15,14 +15,12 @@ use lib.ListN.{length}
 use lib.Pow.{pow-add}
 use lib.Dec.{ltb}
 use Rattle.numbers.specs.Numbers.{number}
-use Rattle.octets.specs.Octets.{octetAt, octetsFrom}
+use Rattle.octets.specs.Octets.{Octets, octetAt, octetsFrom}
 use Rattle.octets.specs.Numbers.{numberFrom}
 use Rattle.octets.proofs.Laws.Octets.{octets-long}
 use Rattle.octets.proofs.Laws.Tests.{leb-same}
 
 -- what a slice's octets are known to be
-abbrev pub Bytes : List ℕ → Type 0
-Bytes s = (i : ℕ) → octetAt s i < 256
 
 pub ltb-same : (a b x y : ℕ) → (a < b → x < y) → (x < y → a < b) → ltb a b ≡ ltb x y
 ltb-same a b x y f g = leb-same (suc a) b (suc x) y f g
@@ -48,7 +46,7 @@ pub value-top : (s : List ℕ) (i n : ℕ) → numberFrom 0 (octetsFrom s i (suc
 unfolding octetsFrom numberFrom
 value-top s i n = value-shift (256 * 0 + octetAt s i) (octetsFrom s (i + 1) n) ∙ rw (octets-long s (i + 1) n) (omega arith)
 
-pub value-below : (s : List ℕ) → Bytes s → (n i : ℕ) → numberFrom 0 (octetsFrom s i n) < 2 ^ (8 * n)
+pub value-below : (s : List ℕ) → Octets s → (n i : ℕ) → numberFrom 0 (octetsFrom s i n) < 2 ^ (8 * n)
 unfolding octetsFrom numberFrom
 value-below s h zero i = omega arith
 value-below s h (suc n) i =
@@ -59,7 +57,7 @@ pub number-top : (s : List ℕ) (p end : ℕ) → p < end → number s p end ≡
 number-top s p end h =
     let e : end - p ≡ suc (end - (p + 1)) = omega arith in rw e (value-top s p (end - (p + 1)))
 
-pub number-below : (s : List ℕ) → Bytes s → (p end : ℕ) → number s p end < 2 ^ (8 * (end - p))
+pub number-below : (s : List ℕ) → Octets s → (p end : ℕ) → number s p end < 2 ^ (8 * (end - p))
 number-below s h p end = value-below s h (end - p) p
 
 pub number-none : (s : List ℕ) (p end : ℕ) → end ≤ p → number s p end ≡ 0

@@ -18,11 +18,11 @@ use lib.Dec.{ltb, leb, eqb}
 use borrow.Author.Tests.{eq-eqb, ne-eqb, eqb-true, ltb-true, leb-true}
 use Rattle.primes.specs.Primes.{freeOf}
 use Rattle.primes.specs.Rows.{rowsOk, wordAt, stepOf}
-use Rattle.octets.specs.Octets.{octetAt, octetsFrom}
+use Rattle.octets.specs.Octets.{Octets, octetAt, octetsFrom}
 use Rattle.octets.proofs.Laws.Tests.{and-l, and-r}
 use Rattle.octets.specs.Numbers.{numberFrom}
 use Rattle.numbers.specs.Numbers.{number}
-use Rattle.numbers.proofs.Laws.Values.{Bytes, octets-none, number-first, number-below}
+use Rattle.numbers.proofs.Laws.Values.{octets-none, number-first, number-below}
 
 -- ---- sums within 64 bits
 
@@ -111,7 +111,7 @@ value-split s (suc a) i b n =
     rw (e, ← f) (value-split s a (i + 1) b (256 * n + octetAt s i))
 
 -- the first octets, so many that fours are left
-pub start : (s : List ℕ) (body end i r m : ℕ) → Bytes s → i ≡ body + (end - body) % 4 → r ≡ min (number s body i) (2 ^ 32)
+pub start : (s : List ℕ) (body end i r m : ℕ) → Octets s → i ≡ body + (end - body) % 4 → r ≡ min (number s body i) (2 ^ 32)
     → (number s body end % m ≡ numberFrom r (octetsFrom s i (end - i)) % m) × ((end - i) % 4 ≡ 0)
 start s body end i r m h e f =
     let a = (end - body) % 4 in

@@ -1,6 +1,5 @@
 -- Loops over the elements of a stretch.
 --     room-kept                           the room stays as long as it was
---     nearer                              each turn goes on
 --     Turn                                a loop that appends what each element gives: what is still to be put
 --     turn-start, turn-next, turn-end     what is put for the elements one after the other is what is put for their list
 --     each-joined                         "each" gives an entry, or none, for each item
@@ -8,8 +7,7 @@
 use mathlib.Core.Path.{_≡_, refl, ap, _∙_}
 use mathlib.Core.List.{List, [], _∷_, map}
 use mathlib.Core.Bool.{Bool, true, false, cond}
-use Prim.Native.Nat.{ℕ, _+_, _-_, _*_, _≤_, _<_}
-use native.Mathlib.Omega.{arith}
+use Prim.Native.Nat.{ℕ, _+_, _*_, _≤_, _<_}
 use lib.ListN.{length}
 use lib.Seq.{sets, length-sets}
 use lib.Dec.{leb}
@@ -19,7 +17,6 @@ use Rattle.report.specs.Forms.{each, joined}
 use Rattle.report.specs.Putting.{tick, putOne, putAll, Put}
 use Rattle.der.specs.Header.{headOf, childrenOf}
 use Rattle.der.specs.declared.header.Head.{Head}
-use Rattle.der.proofs.Laws.Header.{head-forward}
 use Rattle.der.proofs.Laws.Children.{children-done, children-next}
 use Rattle.report.proofs.Laws.Putting.{Rest, rest-start, rest-step, rest-end}
 use Rattle.report.proofs.Laws.Forms.{each-none, each-next}
@@ -43,12 +40,6 @@ pub room-kept : {es : List Entry} {n r : ℕ} {room last : List ℕ} → Put es 
 room-kept {es} {n} {r} {room} p = ap length (p .bytes) ∙ all-kept es n room
 
 -- ---- the elements
-
--- h is the element at a place: behind it less is left
-pub nearer : (s : List ℕ) (at end : ℕ) (h : Head) → at < end → h ≡ headOf s at end → end - h .end < end - at
-nearer s at end h l e =
-    let f = head-forward s at end l in
-    rw e (omega arith)
 
 -- Room that had n₀ entries when the loop was at `from` has n now that it is at `at`. What f gives for the elements from there on is still to be put.
 pub record Turn (f : Head → List Entry) (s : List ℕ) (end from n₀ : ℕ) (room₀ : List ℕ) (at n : ℕ) (room : List ℕ) : Type 0 where

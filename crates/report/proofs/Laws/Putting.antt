@@ -10,21 +10,21 @@
 --     rest-start, rest-step, rest-last, rest-end
 --     table-turn, table-end          a table of rules that a loop goes through
 -- Assumes nothing.
-use mathlib.Core.Path.{_≡_, refl, sym, ap, subst, _∙_}
+use mathlib.Core.Path.{_≡_, refl, sym, subst, _∙_}
 use mathlib.Core.List.{List, [], _∷_, _++_}
 use mathlib.Core.Bool.{Bool, true, false}
-use Prim.Native.Nat.{ℕ, suc, _+_, _*_, _/_, _≤_, _<_, _^_}
-use native.Mathlib.Nat.{add-zero}
+use Prim.Native.Nat.{ℕ, _+_, _*_, _/_, _≤_, _<_, _^_}
 use native.Mathlib.Numerals.{add-one}
 use native.Mathlib.Omega.{arith}
-use lib.ListN.{length, drop, getD, set, drop-of-length-le}
+use lib.ListN.{length, drop, getD, drop-of-length-le}
 use lib.Seq.{sets, drop-cons}
 use borrow.Author.Tests.{lt-ltb, le-ltb, le-leb, lt-leb}
 use Rattle.report.specs.declared.sink.Entry.{Entry}
-use Rattle.octets.specs.Numbers.{pairOf}
 use Rattle.report.specs.Entries.{width, octetsOf, entryIf, noted}
 use Rattle.report.specs.Forms.{onlyIf, joined}
 use Rattle.report.specs.Putting.{cap, tick, putOne, counted, putAll, Put}
+use Rattle.octets.proofs.Laws.Writing.{sets-append}
+use Rattle.octets.specs.Numbers.{pairOf}
 use Rattle.octets.specs.Places.{placeFrom}
 use Rattle.octets.specs.declared.places.Place.{Place}
 use Rattle.der.specs.declared.header.Head.{Head}
@@ -40,13 +40,6 @@ module _ (n : ℕ) where
   unfolding tick
   tick-cap h = rw (le-ltb n cap h)
 
--- octets behind others
-sets-behind : (xs ys room : List ℕ) (i : ℕ) → sets room i (xs ++ ys) ≡ sets (sets room i xs) (i + length xs) ys
-sets-behind [] ys room i = rw (add-zero i)
-sets-behind (x ∷ xs) ys room i =
-    let e : suc i + length xs ≡ i + suc (length xs) = omega arith in
-    sets-behind xs ys (set room i x) (suc i) ∙ ap (λ (k : ℕ). sets (sets (set room i x) (suc i) xs) k ys) e
-
 module _ (e : Entry) (n : ℕ) (room : List ℕ) where
   -- a, b and last are the room after each of the three pairs
   pub put-in : (a b last : List ℕ) → n < length room / width → length room < 2 ^ 63 → a ≡ sets room (width * n) (pairOf (e .rule))
@@ -57,8 +50,8 @@ module _ (e : Entry) (n : ℕ) (room : List ℕ) where
       let l : width * n + width ≤ length room = omega arith in
       let f : width * n + 2 + 2 ≡ width * n + 4 = omega arith in
       let all : sets room (width * n) (octetsOf e) ≡ last
-      = sets-behind (pairOf (e .rule)) (pairOf (e .place .start) ++ pairOf (e .place .len)) room (width * n)
-      ∙ (rw (← p) (sets-behind (pairOf (e .place .start)) (pairOf (e .place .len)) a (width * n + 2) ∙ rw (← q, f) (sym r))) in
+      = sets-append (pairOf (e .rule)) (pairOf (e .place .start) ++ pairOf (e .place .len)) room (width * n)
+      ∙ (rw (← p) (sets-append (pairOf (e .place .start)) (pairOf (e .place .len)) a (width * n + 2) ∙ rw (← q, f) (sym r))) in
       record { count = tick-below n (omega arith); bytes = rw (le-leb (width * n + width) (length room) l) (sym all) }
 
   pub put-out : (r : ℕ) → length room / width ≤ n → r ≡ tick n → Put (e ∷ []) n room r room

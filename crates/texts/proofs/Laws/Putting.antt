@@ -10,7 +10,6 @@ use mathlib.Core.Path.{_≡_, refl, sym, ap, _∙_}
 use mathlib.Core.List.{List, [], _∷_, _++_}
 use mathlib.Core.Bool.{Bool, true, false}
 use Prim.Native.Nat.{ℕ, suc, _+_, _≤_, _<_, min, max}
-use native.Mathlib.Nat.{add-zero}
 use native.Mathlib.Numerals.{add-one}
 use native.Mathlib.Omega.{arith}
 use lib.ListN.{length, getD, set, take, drop, length-set, length-append}
@@ -18,6 +17,7 @@ use lib.Seq.{sets, sets-eq, set-out, length-sets, take-suc, take-all}
 use lib.Dec.{ltb}
 use borrow.Author.Tests.{ltb-true, ltb-false}
 use Rattle.texts.specs.Putting.{placeAfter, bufferAfter, Put}
+use Rattle.octets.proofs.Laws.Writing.{sets-append}
 
 module _ (b n : ℕ) (out : List ℕ) where
   pub put-in : n < length out → Put (b ∷ []) n out (n + 1) (set out n b)
@@ -37,12 +37,6 @@ put-nothing n out = record { place = omega arith; octets = refl }
 sets-out : (vs l : List ℕ) (i : ℕ) → length l ≤ i → sets l i vs ≡ l
 sets-out [] l i h = refl
 sets-out (v ∷ vs) l i h = sets-out vs (set l i v) (suc i) (rw (length-set l i v) (omega arith)) ∙ set-out l i v h
-
-sets-append : (us vs l : List ℕ) (i : ℕ) → sets l i (us ++ vs) ≡ sets (sets l i us) (i + length us) vs
-sets-append [] vs l i = rw (add-zero i)
-sets-append (u ∷ us) vs l i =
-    let e : suc i + length us ≡ i + suc (length us) = omega arith in
-    sets-append us vs (set l i u) (suc i) ∙ ap (λ (k : ℕ). sets (sets (set l i u) (suc i) us) k vs) e
 
 module _ {us vs : List ℕ} {n m r : ℕ} {x y z : List ℕ} (p : Put us n x m y) (q : Put vs m y r z) where
   same-size : length y ≡ length x

@@ -14,13 +14,13 @@ use native.Mathlib.Omega.{arith}
 use lib.ListN.{length, length-append}
 use lib.Dec.{leb}
 use borrow.Author.Tests.{le-leb}
-use Rattle.trees.specs.Trees.{lengthOctets, element, Octets, LengthOk}
+use Rattle.trees.specs.Trees.{lengthOctets, element, LengthOk}
 use Rattle.der.specs.Header.{tagOk, lengthOf, lengthOk, headerSize, wholeHead, brokenHead, headIf, headOf}
 use Rattle.der.specs.Contents.{contentsOf}
 use Rattle.der.specs.Order.{octetsOf}
 use Rattle.der.specs.declared.header.Head.{Head}
 use Rattle.der.proofs.Laws.Header.{head-whole}
-use Rattle.octets.specs.Octets.{octetAt, octetsFrom}
+use Rattle.octets.specs.Octets.{Octets, octetAt, octetsFrom}
 use Rattle.octets.proofs.Laws.Octets.{octets-long, octets-whole}
 use Rattle.octets.proofs.Laws.Tests.{and-l, and-r}
 use Rattle.octets.proofs.Laws.Parts.{head-same, tail-same, part-same, part-join, part-cut}

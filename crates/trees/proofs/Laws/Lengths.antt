@@ -11,9 +11,9 @@ use native.Mathlib.Omega.{arith}
 use lib.ListN.{length}
 use lib.Dec.{ltb, leb, eqb}
 use borrow.Author.Tests.{lt-ltb, le-ltb, ltb-true, ltb-false, ne-eqb, le-leb, leb-true}
-use Rattle.trees.specs.Trees.{numberOctets, lengthOctets, Octets}
+use Rattle.trees.specs.Trees.{numberOctets, lengthOctets}
 use Rattle.der.specs.Header.{lengthOf, longOk, lengthOk, headerSize}
-use Rattle.octets.specs.Octets.{octetAt, octetsFrom}
+use Rattle.octets.specs.Octets.{Octets, octetAt, octetsFrom}
 use Rattle.octets.specs.Numbers.{numberOf}
 use Rattle.octets.proofs.Laws.Octets.{octets-long, octets-at}
 use Rattle.octets.proofs.Laws.Tests.{and-l, and-r}

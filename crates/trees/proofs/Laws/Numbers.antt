@@ -16,8 +16,8 @@ use native.Mathlib.Omega.{arith}
 use lib.ListN.{length}
 use lib.Dec.{ltb}
 use borrow.Author.Tests.{lt-ltb, le-ltb, ltb-true, ltb-false}
-use Rattle.trees.specs.Trees.{numberBy, numberOctets, Octets, LengthOk}
-use Rattle.octets.specs.Octets.{octetAt}
+use Rattle.trees.specs.Trees.{numberBy, numberOctets, LengthOk}
+use Rattle.octets.specs.Octets.{Octets, octetAt}
 use Rattle.octets.specs.Numbers.{numberFrom}
 use Rattle.octets.proofs.Laws.Numbers.{number-grows}
 

@@ -7,11 +7,11 @@ use Prim.Native.Nat.{ℕ, _-_, _≤_}
 use native.Mathlib.Nat.{le-refl}
 use native.Mathlib.Omega.{arith}
 use lib.ListN.{length}
-use Rattle.trees.specs.Trees.{Tree, encode, Octets, Good, Ordered}
+use Rattle.trees.specs.Trees.{Tree, encode, Good, Ordered}
 use Rattle.trees.specs.Reading.{treeOf, parse}
 use Rattle.trees.specs.Outline.{outlineOf, outline, Rises}
 use Rattle.trees.specs.Statement.{Encodes, Faultless, Exactly, Faithful, Outlined}
-use Rattle.octets.specs.Octets.{octetsFrom}
+use Rattle.octets.specs.Octets.{Octets, octetsFrom}
 use Rattle.octets.proofs.Laws.Octets.{octets-long}
 use Rattle.der.specs.Header.{headOf}
 use Rattle.der.specs.Elements.{elementsOf}

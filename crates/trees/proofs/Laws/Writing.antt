@@ -8,7 +8,7 @@ use Prim.Native.Nat.{ℕ, zero, suc, _+_, _-_, _≤_}
 use native.Mathlib.Omega.{arith}
 use lib.ListN.{length}
 use lib.Dec.{leb}
-use Rattle.trees.specs.Trees.{Tree, Trees, identifierOctet, element, encode, encodeAll, Octets, LengthOk, Good, AllGood, height, heightAll}
+use Rattle.trees.specs.Trees.{Tree, Trees, identifierOctet, element, encode, encodeAll, LengthOk, Good, AllGood, height, heightAll}
 use Rattle.trees.specs.Reading.{tagOf, treesOf, treeOf}
 use Rattle.der.specs.Header.{tagOk, lengthOf, lengthOk, headerSize, wholeHead, headOf, childrenOf}
 use Rattle.der.specs.Contents.{constructed as isConstructed, universalOk, contentsOf, elementOk}
@@ -19,7 +19,7 @@ use Rattle.der.specs.Walking.Chain.{done, next}
 use Rattle.der.specs.declared.header.Head.{Head}
 use Rattle.der.proofs.Laws.Header.{head-forward}
 use Rattle.der.proofs.Laws.Walking.{children-chain}
-use Rattle.octets.specs.Octets.{octetAt, octetsFrom}
+use Rattle.octets.specs.Octets.{Octets, octetAt, octetsFrom}
 use Rattle.octets.proofs.Laws.Tests.{and-l}
 use Rattle.octets.proofs.Laws.Parts.{part-same, part-meet}
 use Rattle.trees.proofs.Laws.Identifier.{form-octet, octet-tag, kept-type}

@@ -5,7 +5,7 @@ use Rattle.items.specs.Kinds.{breaks}
 use Rattle.der.specs.Header.{childrenOf}
 use Rattle.report.specs.Forms.{firstOf}
 use Rattle.report.proofs.Laws.First.{first-found, first-passed, first-done}
-use Rattle.report.proofs.Laws.Loops.{nearer}
+use Rattle.der.proofs.Laws.Searching.{nearer}
 use Rattle.items.proofs.firsts.first.Statement.{statement}
 use Rattle.items.proofs.firsts.first.Tie as tie
 

@@ -6,7 +6,7 @@ use Rattle.items.specs.Kinds.{breaks}
 use Rattle.items.specs.Lists.{grandchildren}
 use Rattle.items.proofs.Laws.Lists.{within-found, within-passed, within-done}
 use Rattle.report.specs.Forms.{firstOf}
-use Rattle.report.proofs.Laws.Loops.{nearer}
+use Rattle.der.proofs.Laws.Searching.{nearer}
 use Rattle.items.proofs.firsts.first_within.Statement.{statement}
 use Rattle.items.proofs.firsts.first_within.Tie as tie
 

@@ -3,7 +3,8 @@ use Prim.Native.Nat.{_-_}
 use Rattle.items.specs.Kinds.{breaks}
 use Rattle.report.specs.Entries.{noted}
 use Rattle.report.specs.Forms.{isBehind}
-use Rattle.report.proofs.Laws.Loops.{nearer, Turn, turn-start, turn-next, turn-end, each-joined}
+use Rattle.der.proofs.Laws.Searching.{nearer}
+use Rattle.report.proofs.Laws.Loops.{Turn, turn-start, turn-next, turn-end, each-joined}
 use Rattle.items.proofs.loops.each_behind.Statement.{statement}
 use Rattle.items.proofs.loops.each_behind.Tie as tie
 

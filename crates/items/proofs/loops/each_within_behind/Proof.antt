@@ -5,7 +5,8 @@ use Rattle.items.specs.Lists.{grandchildren}
 use Rattle.items.proofs.Laws.Lists.{members-joined}
 use Rattle.der.specs.Header.{childrenOf}
 use Rattle.report.specs.Forms.{each, isBehind}
-use Rattle.report.proofs.Laws.Loops.{nearer, Turn, turn-start, turn-next, turn-end}
+use Rattle.der.proofs.Laws.Searching.{nearer}
+use Rattle.report.proofs.Laws.Loops.{Turn, turn-start, turn-next, turn-end}
 use Rattle.items.proofs.loops.each_within_behind.Statement.{statement}
 use Rattle.items.proofs.loops.each_within_behind.Tie as tie
 

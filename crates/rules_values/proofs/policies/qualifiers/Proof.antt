@@ -4,7 +4,8 @@ use Rattle.rules_values.proofs.Laws.Qualifiers.{qualifiers-joined}
 use Rattle.der.specs.Header.{childrenOf}
 use Rattle.values.specs.Policies.{qualifiersOf, otherQualifier}
 use Rattle.report.specs.Forms.{each}
-use Rattle.report.proofs.Laws.Loops.{nearer, Turn, turn-start, turn-next, turn-end}
+use Rattle.der.proofs.Laws.Searching.{nearer}
+use Rattle.report.proofs.Laws.Loops.{Turn, turn-start, turn-next, turn-end}
 use Rattle.rules_values.proofs.policies.qualifiers.Statement.{statement}
 use Rattle.rules_values.proofs.policies.qualifiers.Tie as tie
 
