@@ -84,12 +84,12 @@ def row(a):
     i, x = a
     if isinstance(x, str):
         return i * 256 + TESTS[x]
-    return i * 256 + (128 if x[0] == 'set' else 0) + 12 + field_row[x]
+    return i * 256 + (128 if x[0] == 'set' else 0) + len(TESTS) + field_row[x]
 
 
 ROWS = [row(a) for a in alternatives]
-SLOTS = [0 if a is None else a[0] * 256 + form_row[a[1]] for a in fields]
-assert 12 + max(field_row.values()) < 128 and len(ROWS) <= 256
+FIELDS = [0 if a is None else a[0] * 256 + form_row[a[1]] for a in fields]
+assert len(TESTS) + max(field_row.values()) < 128 and len(ROWS) <= 256
 
 
 def const(name, xs):
@@ -99,11 +99,11 @@ def const(name, xs):
 open(ROOT + '/src/table.rt', 'w').write('''// RFC 5280's types as tables of rows, written by tools/grammar_table.py. The proofs compare them with specs/Table.antt.
 
 // A row for each alternative of each type: 256 times its identifier octet, 0 for any, and what is inside: the number
-// of a test, below 12, or 12 more than the row of its first field, with 128 for a SET. 0 ends the type.
+// of a test, or as much more than the row of its first field as there are tests, with 128 for a SET. 0 ends the type.
 ''' + const('ROWS', ROWS) + '''
 // A row for each field: 256 for one that must be there, 512 for one that may, 768 for one that may any number of
 // times, and the row of its type. 0 ends the fields.
-''' + const('SLOTS', SLOTS) + '''
+''' + const('FIELDS', FIELDS) + '''
 // The row of the fields of a list that holds a Certificate alone, and of one that holds alone the value of the
 // extension that rule 340+s judges, for s from 1 to 10.
 ''' + const('ROOTS', ROOTS))
@@ -152,13 +152,13 @@ use mathlib.Core.Path.{_≡_, refl}
 use mathlib.Core.List.{List, [], _∷_, map}
 use Prim.Native.Nat.{ℕ}
 use Rattle.asn.specs.Grammar.{Form, Slots}
-''' + using('Module', ['judged'] + NAMES) + '''use Rattle.asn.specs.Table.{Tables, types, alone, allForms, slotRows, formOf, slotsOf, said, formAt, slotsAt}
+''' + using('Module', ['judged'] + NAMES) + '''use Rattle.asn.specs.Table.{Tables, types, alone, allForms, slotRows, formOf, fieldsOf, rowsSay, formAt, slotsAt}
 
-''' + antt('rows', ROWS) + '\n' + antt('slots', SLOTS) + '\n' + antt('roots', ROOTS) + '''
-forms-right : said formOf Form.none rows ≡ allForms types
+''' + antt('rows', ROWS) + '\n' + antt('slots', FIELDS) + '\n' + antt('roots', ROOTS) + '''
+forms-right : rowsSay formOf Form.none rows ≡ allForms types
 ''' + unfolding('rows types judged slotsAt slotRows'.split() + NAMES) + '''forms-right = refl
 
-fields-right : said slotsOf Slots.done slots ≡ slotRows
+fields-right : rowsSay fieldsOf Slots.done slots ≡ slotRows
 ''' + unfolding('slots slotRows types judged formAt'.split() + NAMES) + '''fields-right = refl
 
 pub tables-right : Tables rows slots

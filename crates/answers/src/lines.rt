@@ -37,7 +37,7 @@ fn put(line: &mut [u8], n: usize, text: &[u8], number: usize) -> usize {
 
 // The same with a refusal.
 fn put_refusal(line: &mut [u8], n: usize, r: Refusal) -> usize {
-    let a = put(line, n, b"refused ", lint::number_of(r));
+    let a = put(line, n, b"refused ", lint::refusal_number(r));
     let b = put(line, a, b" side ", lint::side_of(r));
     put(line, b, b" at ", lint::place_of(r))
 }
@@ -51,10 +51,10 @@ fn put_answer(line: &mut [u8], n: usize, answer: Answer) -> usize {
 }
 
 // The same with the writer's.
-fn put_written(line: &mut [u8], n: usize, answer: writer::Answer) -> usize {
+fn put_written(line: &mut [u8], n: usize, answer: writer::Placing) -> usize {
     match answer {
-        writer::Answer::Blocks(count) => put(line, n, b"blocks ", count),
-        writer::Answer::Refused(r) => put_refusal(line, n, r),
+        writer::Placing::Blocks(count) => put(line, n, b"blocks ", count),
+        writer::Placing::Refused(r) => put_refusal(line, n, r),
     }
 }
 
@@ -93,7 +93,7 @@ pub fn say_answer(answer: Answer) {
     end(&mut line, a);
 }
 
-pub fn say_written(answer: writer::Answer) {
+pub fn say_written(answer: writer::Placing) {
     let mut line = [0u8; LINE];
     let a = put_written(&mut line, 0, answer);
     end(&mut line, a);

@@ -20,15 +20,15 @@ unfoldable pub certificateVerdict : List ℕ → Verdict
 certificateVerdict s = onlyElement certificate s 0 (length s)
 
 -- The paper's number and place for each case of a verdict on a certificate. (0 is no refusal; a list is never a stranger.)
-abbrev pub refusalNumber : Verdict → ℕ
-refusalNumber Stranger = 6
-refusalNumber Fits = 0
-refusalNumber (Wrong p) = 6
+abbrev pub verdictNumber : Verdict → ℕ
+verdictNumber Stranger = 6
+verdictNumber Fits = 0
+verdictNumber (Wrong p) = 6
 
-abbrev pub refusalPlace : Verdict → ℕ
-refusalPlace Stranger = 0
-refusalPlace Fits = 0
-refusalPlace (Wrong p) = p
+abbrev pub verdictPlace : Verdict → ℕ
+verdictPlace Stranger = 0
+verdictPlace Fits = 0
+verdictPlace (Wrong p) = p
 
 -- The octets from at to end are "exactly one sound element of its RFC ASN.1": sound DER, with SETs in order and depths from 1, and of the type
 -- that slot s of the table of extensions has.

@@ -3,7 +3,7 @@
 use mathlib.Core.Bool.{Bool, true, false, cond}
 use mathlib.Core.List.{List}
 use Prim.Native.Nat.{ℕ}
-use Rattle.asn.specs.Grammar.{Form, Inside, Slots, passes, inOrder, takes}
+use Rattle.asn.specs.Grammar.{Form, Inside, Slots, passes, setInOrder, takes}
 use Rattle.asn.specs.Grammar.Form.{none, alt}
 use Rattle.asn.specs.Grammar.Inside.{leaf, parts, set}
 use Rattle.asn.specs.Grammar.Slots.{done, one, opt, many}
@@ -42,7 +42,7 @@ abbrev pub mayStand : Alternative → List ℕ → Head → Bool
 mayStand nobody s h = false
 mayStand (holding (leaf t)) s h = passes t (h .tag) (contentsOf s h)
 mayStand (holding (parts p)) s h = true
-mayStand (holding (set p)) s h = inOrder s h
+mayStand (holding (set p)) s h = setInOrder s h
 
 -- the fields that are left once no element is
 abbrev pub lacking : Slots → ℕ → Verdict

@@ -84,33 +84,33 @@ passes generalized tag c = isReal (timeOf 24 c)
 -- ---- an element
 
 -- The members of a SET ascend. A SET that bears its own tag, 31 hex, was judged with all of DER (refusal 5).
-abbrev pub inOrder : List ℕ → Head → Bool
-inOrder s h = eqb (h .tag) 49 || ascending (map (octetsOf s) (childrenOf s (h .body) (h .end)))
+abbrev pub setInOrder : List ℕ → Head → Bool
+setInOrder s h = eqb (h .tag) 49 || ascending (map (octetsOf s) (childrenOf s (h .body) (h .end)))
 
 -- an identifier octet is the one wanted, or any will do
 abbrev pub takes : ℕ → ℕ → Bool
 takes wanted tag = eqb wanted 0 || eqb wanted tag
 
 -- go on by what became of an element
-abbrev pub after : Verdict → Verdict → Verdict → Verdict
-after Stranger a b = a
-after Fits a b = b
-after (Wrong p) a b = Wrong p
+abbrev pub unlessWrong : Verdict → Verdict → Verdict → Verdict
+unlessWrong Stranger a b = a
+unlessWrong Fits a b = b
+unlessWrong (Wrong p) a b = Wrong p
 
 -- a field that must stand there; `outer` is the start of the enclosing element
 abbrev pub required : (Head → Verdict) → (List Head → Verdict) → ℕ → List Head → Verdict
 required fit rest outer [] = Wrong outer
-required fit rest outer (h ∷ hs) = after (fit h) (Wrong (h .at)) (rest hs)
+required fit rest outer (h ∷ hs) = unlessWrong (fit h) (Wrong (h .at)) (rest hs)
 
 -- a field that may stand there
 abbrev pub optional : (Head → Verdict) → (List Head → Verdict) → List Head → Verdict
 optional fit rest [] = rest []
-optional fit rest (h ∷ hs) = after (fit h) (rest (h ∷ hs)) (rest hs)
+optional fit rest (h ∷ hs) = unlessWrong (fit h) (rest (h ∷ hs)) (rest hs)
 
 -- a field that may stand there any number of times
 abbrev pub repeated : (Head → Verdict) → (List Head → Verdict) → List Head → Verdict
 repeated fit rest [] = rest []
-repeated fit rest (h ∷ hs) = after (fit h) (rest (h ∷ hs)) (repeated fit rest hs)
+repeated fit rest (h ∷ hs) = unlessWrong (fit h) (rest (h ∷ hs)) (repeated fit rest hs)
 
 -- nothing more may stand there
 abbrev pub ended : List Head → Verdict
@@ -126,7 +126,7 @@ unfoldable mutual
   pub holds : Inside → List ℕ → Head → Verdict
   holds (leaf t) s h = cond (passes t (h .tag) (contentsOf s h)) Fits (Wrong (h .at))
   holds (parts p) s h = follows p s (h .at) (childrenOf s (h .body) (h .end))
-  holds (set p) s h = cond (inOrder s h) (follows p s (h .at) (childrenOf s (h .body) (h .end))) (Wrong (h .at))
+  holds (set p) s h = cond (setInOrder s h) (follows p s (h .at) (childrenOf s (h .body) (h .end))) (Wrong (h .at))
 
   pub follows : Slots → List ℕ → ℕ → List Head → Verdict
   follows done s outer hs = ended hs

@@ -133,19 +133,23 @@ testAt n =
     (cond (eqb n 11) Test.generalized
     Test.free)))))))))
 
--- what a row says of the contents: below 12 the number of a test, and from there the row of the first field; 128 marks a SET
+-- the tests' numbers are below this
+abbrev pub testCount : ℕ
+testCount = 12
+
+-- what a row says of the contents: below `testCount` the number of a test, and from there the row of the first field; 128 marks a SET
 abbrev pub insideOf : ℕ → Inside
 insideOf r =
-    cond (ltb (r % 128) 12) (leaf (testAt (r % 128)))
-    (cond (eqb (r / 128 % 2) 0) (parts (slotsAt (r % 128 - 12))) (set (slotsAt (r % 128 - 12))))
+    cond (ltb (r % 128) testCount) (leaf (testAt (r % 128)))
+    (cond (eqb (r / 128 % 2) 0) (parts (slotsAt (r % 128 - testCount))) (set (slotsAt (r % 128 - testCount))))
 
 -- what a row says, with the type of the next row
 abbrev pub formOf : ℕ → Form → Form
 formOf r f = cond (eqb r 0) none (alt (r / 256) (insideOf r) f)
 
 -- what a field's row says, with the fields from the next row on
-abbrev pub slotsOf : ℕ → Slots → Slots
-slotsOf r p =
+abbrev pub fieldsOf : ℕ → Slots → Slots
+fieldsOf r p =
     cond (eqb (r / 256) 0) done
     (cond (eqb (r / 256) 1) (one (formAt (r % 256)) p)
     (cond (eqb (r / 256) 2) (opt (formAt (r % 256)) p)
@@ -163,11 +167,11 @@ fieldAt x = cond (eqb (x .row) 0) nowhere (here (insideOf (x .row)) (slotsAt (x 
 -- ---- tables that say so
 
 -- what the rows say, from the last to the first; `say` is what a row says, given what the next says, and `nil` what the end says
-abbrev pub said {ℓ} : {A : Type ℓ} → (ℕ → A → A) → A → List ℕ → List A
-said say nil [] = []
-said say nil (r ∷ rs) = say r (getD (said say nil rs) 0 nil) ∷ said say nil rs
+abbrev pub rowsSay {ℓ} : {A : Type ℓ} → (ℕ → A → A) → A → List ℕ → List A
+rowsSay say nil [] = []
+rowsSay say nil (r ∷ rs) = say r (getD (rowsSay say nil rs) 0 nil) ∷ rowsSay say nil rs
 
 -- tables of rows that stand for the types and for their fields
 pub record Tables (rows slots : List ℕ) : Type 0 where
-  pub forms : said formOf none rows ≡ allForms types
-  pub fields : said slotsOf done slots ≡ slotRows
+  pub forms : rowsSay formOf none rows ≡ allForms types
+  pub fields : rowsSay fieldsOf done slots ≡ slotRows

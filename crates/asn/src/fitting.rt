@@ -1,8 +1,9 @@
 // The interpreter: the elements of a list against its fields, each by the field and the alternative that take it.
+use crate::leaf::TESTS;
 use crate::leaf::passes_test;
+use crate::table::FIELDS;
 use crate::table::ROOTS;
 use crate::table::ROWS;
-use crate::table::SLOTS;
 use der::Head;
 ghost use mathlib.Core.Path.{_≡_};
 ghost use mathlib.Core.Bool.{cond, _||_};
@@ -11,11 +12,11 @@ ghost use lib.ListN.{getD};
 ghost use lib.Dec.{eqb, ltb};
 ghost use Rattle.octets.specs.Numbers.{largest};
 ghost use Rattle.der.specs.Header.{childrenOf};
-ghost use Rattle.asn.specs.Grammar.{Form, Slots, inOrder, takes, follows, isFits};
+ghost use Rattle.asn.specs.Grammar.{Form, Slots, setInOrder, takes, follows, isFits};
 ghost use Rattle.asn.specs.Choosing.{alternativeFor, fieldFor, mayStand, lacking};
 ghost use Rattle.asn.specs.Module.{valueOf};
 ghost use Rattle.asn.specs.Answers.{onlyElement, certificateVerdict, valueOk};
-ghost use Rattle.asn.specs.Table.{Tables, types, allForms, slotRows, said, formOf, formAt, slotsOf, slotsAt, alternativeAt, fieldAt};
+ghost use Rattle.asn.specs.Table.{Tables, types, allForms, slotRows, rowsSay, formOf, formAt, fieldsOf, slotsAt, alternativeAt, fieldAt};
 
 // What becomes of an element against a type.
 pub enum Verdict {
@@ -51,7 +52,7 @@ fn takes_tag(wanted: usize, tag: u8) -> bool
 // The row of the alternative that takes a tag, of the type at row n; 0 if there is none: the 0 that ends a type takes
 // any tag.
 fn find_alternative(rows: &[u16], n: usize, tag: u8) -> usize
-    requires { ⌜ said formOf Form.none (now rows) ≡ allForms types ⌝ }
+    requires { ⌜ rowsSay formOf Form.none (now rows) ≡ allForms types ⌝ }
     ensures { λ r. ⌜ alternativeAt r ≡ alternativeFor (formAt n) tag ⌝ }
 {
     let mut m = n;
@@ -104,7 +105,7 @@ fn find_field(rows: &[u16], slots: &[u16], k: usize, tag: u8) -> Found
 
 // What becomes of the contents of the element at `outer` where they end before the fields from row k on.
 fn end_before(slots: &[u16], k: usize, outer: usize) -> Verdict
-    requires { ⌜ said slotsOf Slots.done (now slots) ≡ slotRows ⌝ }
+    requires { ⌜ rowsSay fieldsOf Slots.done (now slots) ≡ slotRows ⌝ }
     ensures { λ r. ⌜ r ≡ lacking (slotsAt k) outer ⌝ }
 {
     let mut j = k;
@@ -121,8 +122,8 @@ fn end_before(slots: &[u16], k: usize, outer: usize) -> Verdict
 }
 
 // Whether the members of h ascend, if its row says that it is a SET. With its own tag it was judged with all of DER.
-fn in_order(s: &[u8], row: usize, h: Head) -> bool
-    ensures { λ r. ⌜ r ≡ (eqb (row / 128 % 2) 0 || inOrder (now (s .entry)) h) ⌝ }
+fn set_in_order(s: &[u8], row: usize, h: Head) -> bool
+    ensures { λ r. ⌜ r ≡ (eqb (row / 128 % 2) 0 || setInOrder (now (s .entry)) h) ⌝ }
 {
     if (row / 128 % 2 == 0) | (h.tag == 49) {
         return true;
@@ -138,10 +139,10 @@ fn may_stand(s: &[u8], row: usize, h: Head) -> bool
         return false;
     }
     let inside = row % 128;
-    if inside < 12 {
+    if inside < TESTS {
         return passes_test(s, inside, h.tag, h.body, octets::minus(h.end, h.body));
     }
-    in_order(s, row, h)
+    set_in_order(s, row, h)
 }
 
 fn is_fits(v: Verdict) -> bool
@@ -176,8 +177,8 @@ fn walk(
         if !may_stand(s, found.row, h) {
             return Verdict::Wrong(h.at);
         }
-        if inside >= 12 {
-            let v = walk(s, rows, slots, inside - 12, h.at, h.body, h.end);
+        if inside >= TESTS {
+            let v = walk(s, rows, slots, inside - TESTS, h.at, h.body, h.end);
             if !is_fits(v) {
                 return v;
             }
@@ -194,7 +195,7 @@ fn only_element(s: &[u8], slot: usize, at: usize, end: usize) -> Verdict
     ensures { λ r. ⌜ r ≡ onlyElement (valueOf slot) (now (s .entry)) at end ⌝ }
 {
     let rows = ROWS;
-    let slots = SLOTS;
+    let slots = FIELDS;
     let roots = ROOTS;
     let root = row_at(&roots, slot);
     walk(s, &rows, &slots, root, at, at, end)

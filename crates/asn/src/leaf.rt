@@ -72,6 +72,9 @@ fn universal_ok(s: &[u8], number: u8, tag: u8, body: usize, n: usize) -> bool
     der::primitive_ok(s, number, body, n)
 }
 
+// The tests' numbers are below this.
+pub const TESTS: usize = 12;
+
 // Whether the n octets from place `body` on, under this tag, pass the test with this number.
 pub fn passes_test(s: &[u8], test: usize, tag: u8, body: usize, n: usize) -> bool
     ensures { λ r. ⌜ r ≡ passes (testAt test) tag (octetsFrom (now (s .entry)) body n) ⌝ }

@@ -1,7 +1,7 @@
 // RFC 5280's types as tables of rows, written by tools/grammar_table.py. The proofs compare them with specs/Table.antt.
 
 // A row for each alternative of each type: 256 times its identifier octet, 0 for any, and what is inside: the number
-// of a test, below 12, or 12 more than the row of its first field, with 128 for a SET. 0 ends the type.
+// of a test, or as much more than the row of its first field as there are tests, with 128 for a SET. 0 ends the type.
 pub const ROWS: [u16; 105] = [
     0x0000,
     0x300E,
@@ -112,7 +112,7 @@ pub const ROWS: [u16; 105] = [
 
 // A row for each field: 256 for one that must be there, 512 for one that may, 768 for one that may any number of
 // times, and the row of its type. 0 ends the fields.
-pub const SLOTS: [u16; 126] = [
+pub const FIELDS: [u16; 126] = [
     0x0100,
     0x0000,
     0x0117,

@@ -10,11 +10,11 @@ use Rattle.octets.specs.Numbers.{pairAt, pairOf, quadAt, quadOf}
 
 -- ---- the fields
 
-abbrev pub numberOf : List ℕ → ℕ
-numberOf b = quadAt b 0
+abbrev pub recordNumber : List ℕ → ℕ
+recordNumber b = quadAt b 0
 
-abbrev pub lengthOf : List ℕ → ℕ
-lengthOf b = pairAt b 4
+abbrev pub recordLength : List ℕ → ℕ
+recordLength b = pairAt b 4
 
 abbrev pub partOf : List ℕ → ℕ
 partOf b = octetAt b 6

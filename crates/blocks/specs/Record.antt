@@ -20,11 +20,11 @@ profileIn p = octetAt p 0
 abbrev pub certificateLength : List ℕ → ℕ
 certificateLength p = pairAt p 1
 
-unfoldable pub certificateIn : List ℕ → List ℕ
-certificateIn p = take (certificateLength p) (drop 3 p)
+unfoldable pub certificateOctets : List ℕ → List ℕ
+certificateOctets p = take (certificateLength p) (drop 3 p)
 
-unfoldable pub issuerIn : List ℕ → List ℕ
-issuerIn p = drop (3 + certificateLength p) p
+unfoldable pub issuerOctets : List ℕ → List ℕ
+issuerOctets p = drop (3 + certificateLength p) p
 
 -- "N from 3 to 16,387"
 abbrev pub isRecordLength : ℕ → Bool
@@ -35,6 +35,6 @@ abbrev pub parts : ℕ → ℕ
 parts n = (n + 501) / 502
 
 -- the fill: "last zero-filled"
-abbrev pub zeros : List ℕ → Bool
-zeros [] = true
-zeros (x ∷ xs) = eqb x 0 and zeros xs
+abbrev pub areZero : List ℕ → Bool
+areZero [] = true
+areZero (x ∷ xs) = eqb x 0 and areZero xs

@@ -60,7 +60,7 @@ pub fn check_of(block: &[u8]) -> usize
 }
 
 // Whether a block has its 512 octets, the last two the check of those before.
-pub fn is_sound(block: &[u8]) -> bool
+pub fn is_sound_block(block: &[u8]) -> bool
     ensures { λ r. ⌜ r ≡ sound (now (block .entry)) ⌝ }
 {
     if block.len() != 512 {

@@ -3,17 +3,17 @@
 ghost use mathlib.Core.Path.{_≡_};
 ghost use Prim.Native.Nat.{_<_, _^_};
 ghost use lib.ListN.{drop};
-ghost use Rattle.blocks.specs.Block.{numberOf, lengthOf, partOf, isClear, dataOf};
-ghost use Rattle.blocks.specs.Record.{isRecordLength, zeros, parts};
+ghost use Rattle.blocks.specs.Block.{recordNumber, recordLength, partOf, isClear, dataOf};
+ghost use Rattle.blocks.specs.Record.{isRecordLength, areZero, parts};
 
-pub fn number_of(block: &[u8]) -> usize
-    ensures { λ r. ⌜ (r ≡ numberOf (now (block .entry))) × (r < 2 ^ 32) ⌝ }
+pub fn record_number(block: &[u8]) -> usize
+    ensures { λ r. ⌜ (r ≡ recordNumber (now (block .entry))) × (r < 2 ^ 32) ⌝ }
 {
     65536 * octets::pair(block, 0) + octets::pair(block, 2)
 }
 
-pub fn length_of(block: &[u8]) -> usize
-    ensures { λ r. ⌜ (r ≡ lengthOf (now (block .entry))) × (r < 65536) ⌝ }
+pub fn record_length(block: &[u8]) -> usize
+    ensures { λ r. ⌜ (r ≡ recordLength (now (block .entry))) × (r < 65536) ⌝ }
 {
     octets::pair(block, 4)
 }
@@ -39,7 +39,7 @@ pub fn is_record_length(n: usize) -> bool
 
 // Whether a block's data is zero after its first `used` octets.
 pub fn is_filled(block: &[u8], used: usize) -> bool
-    ensures { λ r. ⌜ r ≡ zeros (drop used (dataOf (now (block .entry)))) ⌝ }
+    ensures { λ r. ⌜ r ≡ areZero (drop used (dataOf (now (block .entry)))) ⌝ }
 {
     let mut i = used;
     while i < 502 {

@@ -3,12 +3,12 @@ mod check;
 mod fields;
 
 pub use check::check_of;
-pub use check::is_sound;
+pub use check::is_sound_block;
 pub use fields::DESK;
 pub use fields::is_clear;
 pub use fields::is_filled;
 pub use fields::is_record_length;
-pub use fields::length_of;
-pub use fields::number_of;
 pub use fields::part_of;
 pub use fields::parts_of;
+pub use fields::record_length;
+pub use fields::record_number;

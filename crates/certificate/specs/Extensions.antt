@@ -3,8 +3,8 @@ use mathlib.Core.List.{List, [], _∷_}
 use mathlib.Core.Bool.{Bool, cond}
 use Prim.Native.Nat.{ℕ, _+_}
 use lib.Dec.{eqb}
-use Rattle.der.specs.Members.{firstIn, secondIn, past}
 use Rattle.certificate.specs.declared.extensions.Extension.{Extension}
+use Rattle.der.specs.Members.{firstIn, secondIn, past}
 use Rattle.octets.specs.Same.{sameBy, exactly}
 use Rattle.der.specs.Header.{childrenOf}
 use Rattle.der.specs.Contents.{contentsOf}
@@ -34,8 +34,8 @@ abbrev pub certificateExtension : ℕ → List ℕ
 certificateExtension n = 0x55 ∷ 0x1D ∷ n ∷ []
 
 -- 1.3.6.1.5.5.7.1.1
-abbrev pub authorityInfoAccess : List ℕ
-authorityInfoAccess = 0x2B ∷ 0x06 ∷ 0x01 ∷ 0x05 ∷ 0x05 ∷ 0x07 ∷ 0x01 ∷ 0x01 ∷ []
+abbrev pub accessIdentifier : List ℕ
+accessIdentifier = 0x2B ∷ 0x06 ∷ 0x01 ∷ 0x05 ∷ 0x05 ∷ 0x07 ∷ 0x01 ∷ 0x01 ∷ []
 
 -- 1.3.6.1.5.5.7.48.1.5
 abbrev pub nocheck : List ℕ
@@ -51,7 +51,7 @@ identifiers =
     ∷ certificateExtension 37  -- extended key usage
     ∷ certificateExtension 32  -- policies
     ∷ certificateExtension 17  -- alternative name
-    ∷ authorityInfoAccess
+    ∷ accessIdentifier
     ∷ certificateExtension 31  -- CRL points
     ∷ nocheck
     ∷ []

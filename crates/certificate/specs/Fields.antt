@@ -3,18 +3,17 @@
 use mathlib.Core.List.{List}
 use Prim.Native.Nat.{ℕ}
 use lib.ListN.{length}
+use Rattle.certificate.specs.declared.fields.Certificate.{Certificate}
 use Rattle.der.specs.Header.{headOf}
 use Rattle.der.specs.Contents.{contentsOf}
 use Rattle.der.specs.declared.header.Head.{Head}
 use Rattle.times.specs.Reads.{timeOf}
-use Rattle.times.specs.declared.calendar.Date.{Date}
 use Rattle.times.specs.declared.validity.Time.{Time}
 use Rattle.times.specs.declared.validity.Time.the-variants.{Utc}
 use Rattle.times.specs.declared.validity.Validity.{Validity}
 use Rattle.times.specs.declared.reading.Reading.{Reading}
 use Rattle.times.specs.declared.reading.Reading.the-variants.{Is, Bad}
-use Rattle.der.specs.Members.{missing, firstIn, after, past, insideTag}
-use Rattle.certificate.specs.declared.fields.Certificate.{Certificate}
+use Rattle.der.specs.Members.{firstIn, after, past, insideTag}
 
 -- ---- Certificate: tbsCertificate, signatureAlgorithm, signatureValue
 
@@ -61,8 +60,8 @@ extendedAfter s key end = past 0x82 s (past 0x81 s (after s key end) end) end
 unfoldable pub listAfter : List ℕ → Head → ℕ → Head
 listAfter s key end = insideTag 0xA3 s (extendedAfter s key end) end
 
-unfoldable pub extensionsIn : List ℕ → Head → Head
-extensionsIn s tbs = listAfter s (keyIn s tbs) (tbs .end)
+unfoldable pub extensionListIn : List ℕ → Head → Head
+extensionListIn s tbs = listAfter s (keyIn s tbs) (tbs .end)
 
 -- ---- Validity: notBefore, notAfter. The argument is the Validity.
 
@@ -102,7 +101,7 @@ certificateOf s =
       «not_after» = notAfterIn s (periodIn s (tbsOf s));
       subject = subjectIn s (tbsOf s);
       key = keyIn s (tbsOf s);
-      extensions = extensionsIn s (tbsOf s);
+      extensions = extensionListIn s (tbsOf s);
       outer = outerOf s;
       validity = validityOf s (notBeforeIn s (periodIn s (tbsOf s))) (notAfterIn s (periodIn s (tbsOf s)));
     }

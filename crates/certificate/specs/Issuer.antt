@@ -1,17 +1,44 @@
 -- "The issuer counts only by its subject name and its key identifier" (document 01, "The report").
 use mathlib.Core.List.{List}
+use mathlib.Core.Bool.{Bool, cond}
 use Prim.Native.Nat.{ℕ}
-use Rattle.der.specs.Members.{firstIn}
 use Rattle.certificate.specs.Fields.{certificateOf}
-use Rattle.certificate.specs.Slots.{startIn, goodStart, holderAt}
+use Rattle.certificate.specs.Slots.{firstInSlot, slotFrom}
 use Rattle.certificate.specs.declared.issuer.Issuer.{Issuer}
-use Rattle.der.specs.Header.{childrenOf}
+use Rattle.certificate.specs.declared.slots.Slot.{Slot}
+use Rattle.der.specs.Contents.{contentsOf}
+use Rattle.der.specs.Members.{membersIn}
+use Rattle.der.specs.Order.{octetsOf}
 use Rattle.der.specs.declared.header.Head.{Head}
 
--- The element inside the first subject key id extension, slot 3, of an extension list, if that value is good: an OCTET STRING. Else it is not
--- sound. "Of repeated ones the first counts, good or bad."
-unfoldable pub keyIdIn : List ℕ → Head → Head
-keyIdIn i list = firstIn i (holderAt i (goodStart i (list .end) 3 (startIn i (childrenOf i (list .body) (list .end)) 3)))
+-- the first subject key id extension, slot 3, of an extension list. "Of repeated ones the first counts, good or bad."
+unfoldable pub keyIdIn : List ℕ → Head → Slot
+keyIdIn i list = slotFrom i 3 (firstInSlot i (list .end) (membersIn i list) 3)
 
 unfoldable pub issuerOf : List ℕ → Issuer
-issuerOf i = record { name = certificateOf i .subject; «key_id» = keyIdIn i (certificateOf i .extensions) }
+issuerOf i =
+    record {
+      name = certificateOf i .subject;
+      «key_id» = keyIdIn i (certificateOf i .extensions) .element;
+      «has_key_id» = keyIdIn i (certificateOf i .extensions) .good;
+    }
+
+-- the key identifier that a certificate has, if it has one
+pub data KeyIdentifier : Type 0 where
+  none : KeyIdentifier
+  some : List ℕ → KeyIdentifier
+
+-- "the issuer's subject key id (.. the issuer has none, or a bad one)": the contents of the OCTET STRING h, if it has a good one
+abbrev pub keyIdentifierOf : List ℕ → Bool → Head → KeyIdentifier
+keyIdentifierOf octets has h = cond has (KeyIdentifier.some (contentsOf octets h)) KeyIdentifier.none
+
+-- what counts of it
+pub record Known : Type 0 where
+  pub name : List ℕ
+  pub key : KeyIdentifier
+
+abbrev pub known : List ℕ → Issuer → Known
+known octets i = record { name = octetsOf octets (i .name); key = keyIdentifierOf octets (i .«has_key_id») (i .«key_id») }
+
+unfoldable pub knownOf : List ℕ → Known
+knownOf octets = known octets (issuerOf octets)

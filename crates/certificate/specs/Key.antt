@@ -2,12 +2,12 @@
 use mathlib.Core.List.{List, [], _∷_}
 use mathlib.Core.Bool.{cond}
 use Prim.Native.Nat.{ℕ}
-use Rattle.der.specs.Comparing.{contentsAre}
-use Rattle.der.specs.declared.header.Head.{Head}
-use Rattle.der.specs.Members.{firstIn, after}
 use Rattle.certificate.specs.declared.key.KeyKind.{KeyKind}
 use Rattle.certificate.specs.declared.key.KeyKind.the-variants.{Rsa, EllipticCurve, Other}
 use Rattle.certificate.specs.declared.key.Key.{Key}
+use Rattle.der.specs.Comparing.{contentsAre}
+use Rattle.der.specs.declared.header.Head.{Head}
+use Rattle.der.specs.Members.{firstIn, after}
 
 -- rsaEncryption, 1.2.840.113549.1.1.1
 abbrev pub rsaEncryption : List ℕ

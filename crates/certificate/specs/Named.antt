@@ -1,26 +1,26 @@
 -- That the fields are read where RFC 5280's grammar has them: `certificateOf` beside the members that asn's `Fields` names.
 use mathlib.Core.Path.{_≡_}
 use mathlib.Core.Bool.{Bool, true, false}
-use mathlib.Core.List.{List, [], _∷_, _++_}
-use lib.ListN.{length}
+use mathlib.Core.List.{List, [], _∷_, _++_, List·Memᴰ}
 use Prim.Native.Nat.{ℕ}
+use lib.ListN.{length}
+use Rattle.certificate.specs.Fields.{certificateOf}
+use Rattle.certificate.specs.Key.{keyOf}
+use Rattle.certificate.specs.Extensions.{slotOf, extensionOf}
+use Rattle.certificate.specs.declared.slots.Slot.{Slot}
 use Rattle.asn.specs.Grammar.{fits}
 use Rattle.asn.specs.Module.{booleanTrue, bitString, octetString, oid, extensions, valueOf}
 use Rattle.asn.specs.Fields.{Optional, Outermost, TbsFields}
 use Rattle.asn.specs.declared.fitting.Verdict.the-variants.{Fits}
 use Rattle.der.specs.Header.{childrenOf}
 use Rattle.der.specs.Contents.{contentsOf}
-use Rattle.der.specs.Elements.{elementsOf}
-use Rattle.der.specs.Soundness.{soundness}
+use Rattle.der.specs.Elements.{elementsOf, isEmpty}
+use Rattle.der.specs.Soundness.{soundness, stretchSoundness}
 use Rattle.der.specs.declared.walk.Soundness.the-variants.{Sound}
 use Rattle.der.specs.declared.header.Head.{Head}
 use Rattle.times.specs.Reads.{timeOf}
 use Rattle.times.specs.declared.reading.Reading.the-variants.{Is}
 use Rattle.der.specs.Members.{membersIn, missing, firstIn}
-use Rattle.certificate.specs.Fields.{certificateOf}
-use Rattle.certificate.specs.Key.{keyOf}
-use Rattle.certificate.specs.Extensions.{extensionOf}
-use Rattle.certificate.specs.declared.slots.Value.{Value}
 
 -- the [0] comes first, if the version is written; else the serial number does
 pub data VersionNamed (version serial : Head) : List Head → Type 0 where
@@ -85,12 +85,23 @@ pub record KeyNamed (s : List ℕ) (key : Head) : Type 0 where
   pub bits-fits : fits bitString s (keyOf s key .bits) ≡ Fits
   pub parameters : ParametersNamed (keyOf s key .parameters) extra
 
+-- ---- the first extension in a slot, where there is one
+
+pub record SlotNamed (s : List ℕ) (slot : ℕ) (list : Head) (v : Slot) : Type 0 where
+  pub among : List·Memᴰ (v .place) (membersIn s list)
+  pub slot-is : slotOf s (v .place) ≡ slot
+  pub critical-is : v .critical ≡ extensionOf s (v .place) .critical
+  pub holder-is : v .holder ≡ extensionOf s (v .place) .value
+  pub element-is : v .element ≡ firstIn s (v .holder)
+
 -- ---- a good value
 
--- The OCTET STRING is that of the extension, and it holds one element, which fills it, is sound with all that it holds, and is of its slot's type.
-pub record ValueNamed (s : List ℕ) (slot : ℕ) (holder : Head) (v : Value) : Type 0 where
-  pub is : v .holder ≡ holder
+-- The extension is there, and its OCTET STRING holds one element, which fills it, is sound with all that it holds, and is of its slot's type.
+pub record ValueNamed (s : List ℕ) (slot : ℕ) (list : Head) (v : Slot) : Type 0 where
+  pub there : isEmpty (v .place) ≡ false
+  pub named : SlotNamed s slot list v
   pub sound : v .holder .sound ≡ true
-  pub alone : childrenOf s (v .holder .body) (v .holder .end) ≡ v .element ∷ []
+  pub filled : stretchSoundness s (v .holder .body) (v .holder .end) ≡ Sound
+  pub alone : membersIn s (v .holder) ≡ v .element ∷ []
   pub elements : soundness s (elementsOf s 16 (v .element)) ≡ Sound
   pub element-fits : fits (valueOf slot) s (v .element) ≡ Fits

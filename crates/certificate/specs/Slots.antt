@@ -1,59 +1,63 @@
--- For each slot of document 01's table the first extension in it ("other rules see the first only"), and its value if that passes 340+s. A slot
--- has one number: a start, or 0 for none.
+-- For each slot of document 01's table the first extension in it ("other rules see the first only"), and its value.
 use mathlib.Core.List.{List, [], _∷_, map}
-use mathlib.Core.Bool.{cond, _||_}
+use mathlib.Core.Bool.{Bool, false, not, _&&_}
 use Prim.Native.Nat.{ℕ, zero, suc, _+_}
-use lib.ListN.{length, getD}
 use lib.Dec.{eqb}
-use Rattle.der.specs.Header.{headOf}
+use Rattle.certificate.specs.Extensions.{extensionOf, slotOf, seenBefore}
+use Rattle.certificate.specs.declared.slots.Firsts.{Firsts}
+use Rattle.certificate.specs.declared.slots.Slot.{Slot}
+use Rattle.certificate.specs.declared.slots.Slots.{Slots}
+use Rattle.der.specs.Elements.{anyOf, firstOf, isEmpty}
+use Rattle.der.specs.Members.{membersIn, firstIn}
 use Rattle.der.specs.declared.header.Head.{Head}
 use Rattle.asn.specs.Answers.{valueOk}
-use Rattle.der.specs.Members.{missing, firstIn}
-use Rattle.certificate.specs.Extensions.{extensionOf, slotOf}
-use Rattle.certificate.specs.declared.slots.Value.{Value}
 
 -- n numbers from k on
 unfoldable pub numbersFrom : ℕ → ℕ → List ℕ
 numbersFrom k zero = []
 numbersFrom k (suc n) = k ∷ numbersFrom (k + 1) n
 
--- a number for each slot: 0, for identifiers that the table does not have, and 1 to 10
-abbrev pub bySlot : (ℕ → ℕ) → List ℕ
-bySlot f = map f (numbersFrom 0 11)
+-- slot 0, for identifiers that the table does not have, and 1 to 10
+abbrev pub slotCount : ℕ
+slotCount = 11
 
--- the first of two starts that is one. (No extension starts at 0, where the certificate does.)
-abbrev pub orElse : ℕ → ℕ → ℕ
-orElse a b = cond (eqb a 0) b a
+abbrev pub bySlot : {A : Type 0} → (ℕ → A) → List A
+bySlot f = map f (numbersFrom 0 slotCount)
 
--- the start of the first extension in a slot
-unfoldable pub startIn : List ℕ → List Head → ℕ → ℕ
-startIn s [] slot = 0
-startIn s (h ∷ hs) slot = cond (eqb (slotOf s h) slot) (orElse (h .at) (startIn s hs slot)) (startIn s hs slot)
+-- the first extension in a slot, of a list that ends at end; missing there if there is none
+unfoldable pub firstInSlot : List ℕ → ℕ → List Head → ℕ → Head
+firstInSlot s end hs slot = firstOf (λ h. eqb (slotOf s h) slot) end hs
 
-unfoldable pub startsOf : List ℕ → List Head → List ℕ
-startsOf s hs = bySlot (startIn s hs)
+-- 340+s "value exactly one sound element of its RFC ASN.1", of an extension that is there; slot 0 has no type
+abbrev pub isGood : List ℕ → ℕ → Head → Head → Bool
+isGood s slot place holder = (not (eqb slot 0) && not (isEmpty place)) && valueOk s slot (holder .body) (holder .end)
 
--- the OCTET STRING of the Extension that starts at at, in a list that ends at end
-abbrev pub valueFrom : List ℕ → ℕ → ℕ → Head
-valueFrom s at end = extensionOf s (headOf s at end) .value
-
--- its start, if it passes 340 + slot
-unfoldable pub goodStart : List ℕ → ℕ → ℕ → ℕ → ℕ
-goodStart s end slot at =
-    cond (eqb slot 0 || eqb at 0) 0
-    (cond (valueOk s slot (valueFrom s at end .body) (valueFrom s at end .end)) (valueFrom s at end .at) 0)
-
-unfoldable pub valuesOf : List ℕ → List ℕ → ℕ → List ℕ
-valuesOf s starts end = bySlot (λ slot. goodStart s end slot (getD starts slot 0))
-
--- the OCTET STRING that starts at at
-abbrev pub holderAt : List ℕ → ℕ → Head
-holderAt s at = cond (eqb at 0) (missing (length s)) (headOf s at (length s))
-
--- the OCTET STRING of a slot and the one element in it; both are not sound where the slot has no good value
-unfoldable pub valueAt : List ℕ → List ℕ → ℕ → Value
-valueAt s values slot =
+-- what is read of the first extension in a slot
+unfoldable pub slotFrom : List ℕ → ℕ → Head → Slot
+slotFrom s slot h =
     record {
-      holder = holderAt s (getD values slot 0);
-      element = firstIn s (holderAt s (getD values slot 0));
+      place = h;
+      critical = extensionOf s h .critical;
+      holder = extensionOf s h .value;
+      element = firstIn s (extensionOf s h .value);
+      good = isGood s slot h (extensionOf s h .value);
     }
+
+-- of a SEQUENCE OF Extension
+unfoldable pub slotsOf : List ℕ → Head → List Slot
+slotsOf s list = bySlot (λ slot. slotFrom s slot (firstInSlot s (list .end) (membersIn s list) slot))
+
+-- 361 is broken: some extension has an identifier seen before
+unfoldable pub hasRepeats : List ℕ → Head → Bool
+hasRepeats s list = anyOf (seenBefore s (list .body)) (membersIn s list)
+
+unfoldable pub readSlots : List ℕ → Head → Slots
+readSlots s list = record { each = slotsOf s list; repeated = hasRepeats s list }
+
+-- ---- as the code finds them: first the extensions, then what is read of each; nothing is read of none
+
+unfoldable pub firstsOf : List ℕ → Head → Firsts
+firstsOf s list = record { each = bySlot (firstInSlot s (list .end) (membersIn s list)); repeated = hasRepeats s list }
+
+abbrev pub emptySlot : Head → Slot
+emptySlot none = record { place = none; critical = false; holder = none; element = none; good = false }

@@ -1,98 +1,172 @@
-// For each slot of document 01's table the first extension in it, and its value if that passes 340+s. A slot has one
-// number: a start, or 0 for none.
+// For each slot of document 01's table the first extension in it, and its value: what rules ask of an extension is read
+// once a certificate.
 use crate::extensions::extension_of;
+use crate::extensions::seen_before;
 use crate::extensions::slot_of;
 use der::Head;
 ghost use mathlib.Core.Path.{_≡_};
-ghost use lib.ListN.{getD};
-ghost use Rattle.der.specs.Header.{childrenOf};
-ghost use Rattle.certificate.specs.Slots.{orElse, startsOf, goodStart, valuesOf, holderAt, valueAt};
+ghost use mathlib.Core.Bool.{cond, not, _&&_, _||_};
+ghost use lib.Dec.{eqb};
+ghost use Rattle.der.specs.Elements.{isEmpty};
+ghost use Rattle.der.specs.Members.{membersIn};
+ghost use Rattle.certificate.specs.Extensions.{seenBefore};
+ghost use Rattle.certificate.specs.Slots.{firstInSlot, isGood, slotFrom, emptySlot, firstsOf, readSlots};
 
-// The OCTET STRING of an extension and the one element in it.
-pub struct Value {
+// Slot 0 is for identifiers that the table does not have; it has 1 to 10.
+pub const SLOTS: usize = 11;
+
+// The first Extension in a slot.
+pub struct Slot {
+    // the Extension; missing at the end of the list if there is none
+    pub place: Head,
+    pub critical: bool,
+    // the OCTET STRING
     pub holder: Head,
+    // the first element in it, which is all of it if the value is good
     pub element: Head,
+    // the Extension is there, and its value passes 340+s
+    pub good: bool,
 }
 
-// The number of a slot.
-pub fn number_at(numbers: &[usize], slot: usize) -> usize
-    ensures { λ r. ⌜ r ≡ getD (now (numbers .entry)) slot 0 ⌝ }
+pub struct Slots {
+    pub each: [Slot; SLOTS],
+    // some Extension has an identifier seen before
+    pub repeated: bool,
+}
+
+// What one walk along the list finds.
+struct Firsts {
+    each: [Head; SLOTS],
+    repeated: bool,
+}
+
+// The first of two Extensions that is there.
+fn or_else(first: Head, e: Head) -> Head
+    ensures { λ r. ⌜ r ≡ cond (isEmpty first) e first ⌝ }
 {
-    if slot < numbers.len() {
-        return numbers[slot];
+    if der::is_none(first) {
+        return e;
     }
-    0
+    first
 }
 
-// The first of two starts that is one.
-fn or_else(a: usize, b: usize) -> usize
-    ensures { λ r. ⌜ r ≡ orElse a b ⌝ }
+// Whether the Extension e, in a list that starts at `from`, repeats an identifier, where `first` is the first before it
+// in its slot. A slot of the table has one identifier; only for others the list is searched.
+fn is_repeat(s: &[u8], from: usize, slot: usize, first: Head, e: Head) -> bool
+    ensures { λ r. ⌜ r ≡ (not (isEmpty first) && (not (eqb slot 0) || seenBefore (now (s .entry)) from e)) ⌝ }
 {
-    if a == 0 { b } else { a }
+    if der::is_none(first) {
+        return false;
+    }
+    if slot == 0 {
+        return seen_before(s, from, e);
+    }
+    true
 }
 
-// For each slot the start of the first Extension in it, of a SEQUENCE OF Extension.
-pub fn first_extensions(s: &[u8], list: Head) -> [usize; 11]
-    ensures { λ r. ⌜ r ≡ startsOf (now (s .entry)) (childrenOf (now (s .entry)) (list .body) (list .end)) ⌝ }
+fn first_extensions(s: &[u8], list: Head) -> Firsts
+    ensures { λ r. ⌜ r ≡ firstsOf (now (s .entry)) list ⌝ }
 {
-    let mut starts = [0usize; 11];
+    let end = list.end;
+    let from = list.body;
+    let none = der::missing(end);
+    let mut firsts = [none; SLOTS];
+    let mut repeated = false;
+    let mut i = from;
+    while i < end {
+        let e = der::head_at(s, i, end);
+        let slot = slot_of(s, e);
+        let first = firsts[slot];
+        repeated = repeated | is_repeat(s, from, slot, first, e);
+        firsts[slot] = or_else(first, e);
+        i = e.end;
+    }
+    Firsts {
+        each: firsts,
+        repeated: repeated,
+    }
+}
+
+// The first Extension in a slot, of a SEQUENCE OF Extension.
+pub fn first_in_slot(s: &[u8], list: Head, slot: usize) -> Head
+    ensures { λ r. ⌜ r ≡ firstInSlot (now (s .entry)) (list .end) (membersIn (now (s .entry)) list) slot ⌝ }
+{
     let end = list.end;
     let mut i = list.body;
     while i < end {
         let e = der::head_at(s, i, end);
-        let slot = slot_of(s, e);
-        starts[slot] = or_else(starts[slot], e.at);
+        let found = slot_of(s, e);
+        if found == slot {
+            return e;
+        }
         i = e.end;
     }
-    starts
+    der::missing(end)
 }
 
-// The start of the value of the Extension that starts at `at`, in a list that ends at `end`, if it passes 340+slot.
-pub fn good_start(s: &[u8], end: usize, slot: usize, at: usize) -> usize
-    ensures { λ r. ⌜ r ≡ goodStart (now (s .entry)) end slot at ⌝ }
+// Whether the value of the Extension h, in an OCTET STRING, passes 340+slot.
+fn is_good(s: &[u8], slot: usize, h: Head, holder: Head) -> bool
+    ensures { λ r. ⌜ r ≡ isGood (now (s .entry)) slot h holder ⌝ }
 {
-    if (slot == 0) | (at == 0) {
-        return 0;
+    if (slot == 0) | der::is_none(h) {
+        return false;
     }
-    let extension = extension_of(s, der::head_at(s, at, end));
-    let value = extension.value;
-    if asn::value_ok(s, slot, value.body, value.end) {
-        return value.at;
-    }
-    0
+    asn::value_ok(s, slot, holder.body, holder.end)
 }
 
-// For each slot the start of the OCTET STRING of its first Extension, if its value is good. `end` is where the list
-// ends.
-pub fn good_values(s: &[u8], starts: &[usize], end: usize) -> [usize; 11]
-    ensures { λ r. ⌜ r ≡ valuesOf (now (s .entry)) (now (starts .entry)) end ⌝ }
+// What is read of the first Extension in a slot.
+pub fn slot_from(s: &[u8], slot: usize, h: Head) -> Slot
+    ensures { λ r. ⌜ r ≡ slotFrom (now (s .entry)) slot h ⌝ }
 {
-    let mut values = [0usize; 11];
-    let mut slot = 0;
-    while slot < 11 {
-        values[slot] = good_start(s, end, slot, number_at(starts, slot));
-        slot += 1;
-    }
-    values
-}
-
-// The OCTET STRING that starts at `at`.
-pub fn holder_at(s: &[u8], at: usize) -> Head
-    ensures { λ r. ⌜ r ≡ holderAt (now (s .entry)) at ⌝ }
-{
-    if at == 0 {
-        return der::missing(s.len());
-    }
-    der::head_at(s, at, s.len())
-}
-
-// The good value of a slot; both heads are not sound where it has none.
-pub fn value_at(s: &[u8], values: &[usize], slot: usize) -> Value
-    ensures { λ r. ⌜ r ≡ valueAt (now (s .entry)) (now (values .entry)) slot ⌝ }
-{
-    let holder = holder_at(s, number_at(values, slot));
-    Value {
+    let extension = extension_of(s, h);
+    let holder = extension.value;
+    Slot {
+        place: h,
+        critical: extension.critical,
         holder: holder,
         element: der::first_in(s, holder),
+        good: is_good(s, slot, h, holder),
+    }
+}
+
+// A slot in which there is none.
+fn empty_slot(none: Head) -> Slot
+    ensures { λ r. ⌜ r ≡ emptySlot none ⌝ }
+{
+    Slot {
+        place: none,
+        critical: false,
+        holder: none,
+        element: none,
+        good: false,
+    }
+}
+
+// Of an empty slot nothing is read.
+fn slot_or(s: &[u8], slot: usize, h: Head, none: Slot) -> Slot
+    ensures { λ r. ⌜ r ≡ cond (isEmpty h) none (slotFrom (now (s .entry)) slot h) ⌝ }
+{
+    if der::is_none(h) {
+        return none;
+    }
+    slot_from(s, slot, h)
+}
+
+// Of a SEQUENCE OF Extension.
+pub fn read_slots(s: &[u8], list: Head) -> Slots
+    ensures { λ r. ⌜ r ≡ readSlots (now (s .entry)) list ⌝ }
+{
+    let found = first_extensions(s, list);
+    let firsts = found.each;
+    let none = empty_slot(der::missing(list.end));
+    let mut each = [none; SLOTS];
+    let mut slot = 0;
+    while slot < SLOTS {
+        each[slot] = slot_or(s, slot, firsts[slot], none);
+        slot += 1;
+    }
+    Slots {
+        each: each,
+        repeated: found.repeated,
     }
 }

@@ -7,12 +7,12 @@ use Rattle.deckpack.specs.declared.decimals.Decimal.{Decimal}
 use Rattle.deckpack.specs.declared.decimals.Decimal.the-variants.{Number, Other}
 
 -- 0 to 9
-abbrev pub isDigit : ℕ → Bool
-isDigit c = leb 48 c && leb c 57
+abbrev pub isDecimalDigit : ℕ → Bool
+isDecimalDigit c = leb 48 c && leb c 57
 
 unfoldable pub areDigits : List ℕ → Bool
 areDigits [] = true
-areDigits (c ∷ cs) = isDigit c && areDigits cs
+areDigits (c ∷ cs) = isDecimalDigit c && areDigits cs
 
 -- the number that digits say, written on behind n
 unfoldable pub valueFrom : ℕ → List ℕ → ℕ
@@ -20,12 +20,12 @@ valueFrom n [] = n
 valueFrom n (c ∷ cs) = valueFrom (10 * n + (c - 48)) cs
 
 -- "octets 0–3 record number"
-abbrev pub largest : ℕ
-largest = 4294967295
+abbrev pub largestNumber : ℕ
+largestNumber = 4294967295
 
 -- a number that a record can have
 abbrev pub upTo : Bool → ℕ → Decimal
-upTo digits n = cond (digits && leb n largest) (Number n) Other
+upTo digits n = cond (digits && leb n largestNumber) (Number n) Other
 
 -- the digits cs written on behind n
 unfoldable pub decimalFrom : ℕ → List ℕ → Decimal
@@ -38,4 +38,4 @@ decimalOf (c ∷ cs) = decimalFrom 0 (c ∷ cs)
 
 -- one digit written on
 unfoldable pub appended : ℕ → ℕ → Decimal
-appended n c = upTo (isDigit c) (10 * n + (c - 48))
+appended n c = upTo (isDecimalDigit c) (10 * n + (c - 48))

@@ -1,6 +1,6 @@
 // Decimal numbers.
 ghost use mathlib.Core.Path.{_≡_};
-ghost use Rattle.deckpack.specs.Decimals.{isDigit, appended, decimalOf};
+ghost use Rattle.deckpack.specs.Decimals.{isDecimalDigit, appended, decimalOf};
 
 pub enum Decimal {
     Number(u32),
@@ -12,7 +12,7 @@ pub enum Decimal {
 const LARGEST: u64 = 4294967295;
 
 fn is_digit(c: u8) -> bool
-    ensures { λ r. ⌜ r ≡ isDigit c ⌝ }
+    ensures { λ r. ⌜ r ≡ isDecimalDigit c ⌝ }
 {
     (48 <= c) & (c <= 57)
 }

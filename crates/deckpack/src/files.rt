@@ -70,7 +70,7 @@ pub fn load(i: usize, space: &mut [u8]) -> Loaded
 }
 
 // Writes the octets to standard output.
-pub fn put(octets: &[u8]) {
+pub fn write_out(octets: &[u8]) {
     if !io::write_all(STDOUT_FILENO, octets) {
         os::fail(b"standard output");
     }

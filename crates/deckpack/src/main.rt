@@ -10,7 +10,7 @@ mod words;
 
 use decimals::Decimal;
 use files::Loaded;
-use writer::Answer;
+use writer::Placing;
 ghost use mathlib.Core.Path.{_≡_};
 ghost use Prim.Native.Nat.{min};
 
@@ -25,8 +25,8 @@ fn pack(number: u32, profile: u8, certificate: &[u8], issuer: &[u8]) {
     let mut room = [0u8; ROOM];
     let answer = writer::write_record(number, profile, certificate, issuer, &mut room);
     match answer {
-        Answer::Blocks(count) => files::put(&room[..512 * count]),
-        Answer::Refused(r) => words::say_refusal(r),
+        Placing::Blocks(count) => files::write_out(&room[..512 * count]),
+        Placing::Refused(r) => words::say_refusal(r),
     }
 }
 

@@ -28,7 +28,7 @@ fn say_reason(r: Refusal) {
 
 pub fn say_refusal(r: Refusal) {
     say(b"refused ");
-    io::print_decimal(STDERR_FILENO, lint::number_of(r) as u64);
+    io::print_decimal(STDERR_FILENO, lint::refusal_number(r) as u64);
     say(b": ");
     say_reason(r);
 }

@@ -5,8 +5,9 @@ pub mod Contents
 pub mod Order
 pub mod Children
 pub mod Members
+pub mod Arcs
 pub mod Any
-pub mod Searching
 pub mod Walks
 pub mod Walking
+pub mod Searching
 pub mod Places

@@ -2,8 +2,10 @@
 use mathlib.Core.List.{List, [], _∷_, _++_}
 use mathlib.Core.Bool.{Bool, false, cond, _||_}
 use Prim.Native.Nat.{ℕ, zero, suc}
+use lib.Dec.{leb}
 use Rattle.der.specs.Header.{childrenOf}
 use Rattle.der.specs.Contents.{constructed}
+use Rattle.der.specs.Members.{missing}
 use Rattle.der.specs.declared.header.Head.{Head}
 
 -- "In a constructed one, an element holds a list of elements"
@@ -32,3 +34,12 @@ membersOf s levels at end = joined (elementsOf s levels) (childrenOf s at end)
 unfoldable pub anyOf : (Head → Bool) → List Head → Bool
 anyOf test [] = false
 anyOf test (h ∷ hs) = test h || anyOf test hs
+
+-- the first that passes it; where there is none, the missing element at the end of the list
+unfoldable pub firstOf : (Head → Bool) → ℕ → List Head → Head
+firstOf test end [] = missing end
+firstOf test end (h ∷ hs) = cond (test h) h (firstOf test end hs)
+
+-- there is none: every element has an octet at least
+abbrev pub isEmpty : Head → Bool
+isEmpty h = leb (h .end) (h .at)

@@ -5,6 +5,7 @@ pub mod Integers
 pub mod Order
 pub mod Members
 pub mod Comparing
+pub mod Arcs
 pub mod Elements
 pub mod Soundness
 pub mod Walking

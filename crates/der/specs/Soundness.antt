@@ -52,15 +52,15 @@ abbrev pub derSoundness : List ℕ → Soundness
 derSoundness s = stretchSoundness s 0 (length s)
 
 -- The paper's number and place for each case. (0 is no refusal.)
-abbrev pub refusalNumber : Soundness → ℕ
-refusalNumber Sound = 0
-refusalNumber (Unsound p) = 4
-refusalNumber (Unordered p) = 5
+abbrev pub soundnessNumber : Soundness → ℕ
+soundnessNumber Sound = 0
+soundnessNumber (Unsound p) = 4
+soundnessNumber (Unordered p) = 5
 
-abbrev pub refusalPlace : Soundness → ℕ
-refusalPlace Sound = 0
-refusalPlace (Unsound p) = p
-refusalPlace (Unordered p) = p
+abbrev pub soundnessPlace : Soundness → ℕ
+soundnessPlace Sound = 0
+soundnessPlace (Unsound p) = p
+soundnessPlace (Unordered p) = p
 
 -- ---- how the walk puts its answer together
 

@@ -1,5 +1,6 @@
 // Sound DER: an element's header, its members, what it says, the contents of the universal types, the order of a
 // SET's members, and the walk over elements within elements that refusals 4 and 5 rest on.
+mod arcs;
 mod comparing;
 mod contents;
 mod header;
@@ -7,6 +8,7 @@ mod members;
 mod order;
 mod walk;
 
+pub use arcs::arc_below;
 pub use comparing::contents_are;
 pub use comparing::first_is;
 pub use comparing::octets_are;
@@ -22,6 +24,7 @@ pub use header::head_at;
 pub use members::after;
 pub use members::first_in;
 pub use members::inside_tag;
+pub use members::is_none;
 pub use members::missing;
 pub use members::past;
 pub use members::second_in;

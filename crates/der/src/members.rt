@@ -4,12 +4,20 @@ use crate::header::broken_head;
 use crate::header::head_at;
 ghost use mathlib.Core.Path.{_≡_};
 ghost use Rattle.der.specs.Members.{missing as noMember, firstIn, after as memberAfter, secondIn, past as memberPast, insideTag};
+ghost use Rattle.der.specs.Elements.{isEmpty};
 
 // No element, in a container that ends at `end`.
 pub fn missing(end: usize) -> Head
     ensures { λ r. ⌜ r ≡ noMember end ⌝ }
 {
     broken_head(end, end)
+}
+
+// Whether that is what a search found: every element has an octet at least.
+pub fn is_none(h: Head) -> bool
+    ensures { λ r. ⌜ r ≡ isEmpty h ⌝ }
+{
+    h.end <= h.at
 }
 
 // The first member of an element.

@@ -16,14 +16,14 @@ use Rattle.times.specs.Reads.{allDigits, digitsAndZ, dateAt, ifReal, timeOf}
 use Rattle.asn.specs.Grammar.{fits}
 use Rattle.asn.specs.Module.{certificate, keyUsage, judged, valueOf}
 use Rattle.asn.specs.Answers.{certificateVerdict, valueOk}
-use Rattle.values.specs.Usage.{anyBelow, otherBits, otherUsage}
-use Rattle.values.specs.Policies.{isBelow}
+use Rattle.usages.specs.Usage.{anyBelow, otherBits}
+use Rattle.policies.specs.Policies.{isBelow}
 use Rattle.profiles.specs.Fields.{askedOf}
 use Rattle.lint.specs.Judging.{sideJudgement, bothSides, admissionOf, judgementOf}
 use Rattle.lint.specs.Answers.{answerOf, roomOf}
 use Rattle.blocks.specs.Tests.{_and_, between}
 use Rattle.blocks.specs.Block.{checkOf, sound, blockOf}
-use Rattle.blocks.specs.Record.{certificateIn, issuerIn}
+use Rattle.blocks.specs.Record.{certificateOctets, issuerOctets}
 use Rattle.writer.specs.Cutting.{zeroFilled, blocksOf}
 use Rattle.reader.specs.Runs.{blocks, isPart, isWhole, run, starts, recordFrom}
 use Rattle.reader.specs.Events.{lossOf}
@@ -31,5 +31,5 @@ use Rattle.reader.specs.Finding.{foundAt}
 use Rattle.reader.specs.Stepping.{lintedRoom, itemAt, roomAt}
 
 pub examples : map (λ (e : Example). answer (e .asked)) table ≡ map (λ (e : Example). e .answered) table
-unfolding answer table ascii yearOf isWithin stretchSoundness soundness first elementsOf elementOk primitiveOk arcsOk ascendFrom octetsLe headOf childrenOf childrenBy octetsFrom numberFrom integerOf timeOf ifReal dateAt digitsAndZ allDigits dateOk momentOf secondsOf daysOf beforeYear beforeMonth certificateVerdict valueOk fits certificate keyUsage judged valueOf isBelow otherUsage otherBits anyBelow p12Deck askedOf _and_ between checkOf sound blockOf certificateIn issuerIn zeroFilled blocksOf blocks isPart isWhole run starts recordFrom lossOf foundAt lintedRoom itemAt roomAt admissionOf sideJudgement bothSides judgementOf answerOf roomOf
+unfolding answer table ascii yearOf isWithin stretchSoundness soundness first elementsOf elementOk primitiveOk arcsOk ascendFrom octetsLe headOf childrenOf childrenBy octetsFrom numberFrom integerOf timeOf ifReal dateAt digitsAndZ allDigits dateOk momentOf secondsOf daysOf beforeYear beforeMonth certificateVerdict valueOk fits certificate keyUsage judged valueOf isBelow otherBits anyBelow p12Deck askedOf _and_ between checkOf sound blockOf certificateOctets issuerOctets zeroFilled blocksOf blocks isPart isWhole run starts recordFrom lossOf foundAt lintedRoom itemAt roomAt admissionOf sideJudgement bothSides judgementOf answerOf roomOf
 examples = refl

@@ -10,7 +10,7 @@ use lib.IntN.{ℤ, pos, negsuc}
 use Rattle.der.specs.Header.{headOf}
 use Rattle.der.specs.Contents.{contentsOf}
 use Rattle.der.specs.Integers.{integerOf}
-use Rattle.der.specs.Soundness.{derSoundness, refusalNumber, refusalPlace}
+use Rattle.der.specs.Soundness.{derSoundness, soundnessNumber, soundnessPlace}
 use Rattle.times.specs.Reads.{timeOf}
 use Rattle.times.specs.Validity.{dateOf, withinDaysOf}
 use Rattle.times.specs.declared.reading.Reading.{Reading}
@@ -21,14 +21,14 @@ use Rattle.profiles.specs.declared.fields.Profile.the-variants.{Domain, Organiz
 use Rattle.certificate.specs.declared.key.KeyKind.{KeyKind}
 use Rattle.certificate.specs.declared.key.KeyKind.the-variants.{Rsa, EllipticCurve}
 use Rattle.rules_values.specs.Usage.{allowedUsage}
-use Rattle.values.specs.Usage.{otherUsage}
-use Rattle.values.specs.Policies.{isBelow, federalArc}
-use Rattle.asn.specs.Answers.{certificateVerdict, refusalNumber as formNumber, refusalPlace as formPlace, valueOk}
+use Rattle.usages.specs.Usage.{usageOf, otherBits}
+use Rattle.policies.specs.Policies.{isBelow, federalArc}
+use Rattle.asn.specs.Answers.{certificateVerdict, verdictNumber, verdictPlace, valueOk}
 use Rattle.lint.specs.declared.refusals.Side.the-variants.{Certificate}
 use Rattle.lint.specs.declared.refusals.Refusal.the-variants.{NotCertificate}
 use Rattle.lint.specs.declared.linting.Answer.the-variants as Lint
 use Rattle.blocks.specs.Block.{blockOf}
-use Rattle.writer.specs.Cutting.{zeroFilled, blocksOf, joined}
+use Rattle.writer.specs.Cutting.{zeroFilled, blocksOf, endToEnd}
 use Rattle.reader.specs.Runs.{blocks}
 use Rattle.reader.specs.Walking.{Handed, walk}
 use Rattle.reader.specs.declared.finding.Loss.the-variants.{Short, Unsound}
@@ -82,14 +82,14 @@ isWithin days Bad b = senseless
 
 -- what the definitions answer
 unfoldable pub answer : Question → Answer
-answer (encoding s) = refusal (refusalNumber (derSoundness s)) (refusalPlace (derSoundness s))
-answer (form s) = refusal (formNumber (certificateVerdict s)) (formPlace (certificateVerdict s))
+answer (encoding s) = refusal (soundnessNumber (derSoundness s)) (soundnessPlace (derSoundness s))
+answer (form s) = refusal (verdictNumber (certificateVerdict s)) (verdictPlace (certificateVerdict s))
 answer (integer s) = number (integerOf (contentsOf s (headOf s 0 (length s))))
 answer (year text) = yearOf (timeOf 23 (ascii text))
 answer (within p a b) = isWithin (maxDays p) (timeOf 23 (ascii a)) (timeOf 23 (ascii b))
 answer (value slot s) = says (valueOk s slot 0 (length s))
 answer (below s) = says (isBelow federalArc s)
-answer (usage p kind s) = says (otherUsage s (headOf s 0 (length s)) (allowedUsage p kind))
+answer (usage p kind s) = says (otherBits (usageOf s (headOf s 0 (length s))) (allowedUsage p kind))
 answer (check k p) = octets (drop 510 (blockOf k (length p) 0 (take 502 (zeroFilled p))))
 answer (reading deck room) = handed (walk (length (blocks deck)) deck 0 room)
 
@@ -110,7 +110,7 @@ p12 = 0x01 ∷ 0x00 ∷ 0x02 ∷ 0x30 ∷ 0x00 ∷ 0x30 ∷ 0x00 ∷ []
 
 -- "the P12 block, a zero block and 100 more octets"
 unfoldable pub p12Deck : List ℕ
-p12Deck = joined (blocksOf 1 p12) ++ replicate 612 0
+p12Deck = endToEnd (blocksOf 1 p12) ++ replicate 612 0
 
 -- "record 1 profile 1 refused 6 side 1 at 0", "lost 1 unsound", "lost 2 short"
 abbrev p12Handed : List Handed

@@ -20,7 +20,7 @@ fn packed(r: Refusal) -> u64
     requires { ⌜ placeOf r < 65536 ⌝ }
     ensures { λ n. ⌜ n ≡ packedRefusal r ⌝ }
 {
-    let number = lint::number_of(r) as u64;
+    let number = lint::refusal_number(r) as u64;
     let side = lint::side_of(r) as u64;
     let place = lint::place_of(r) as u64;
     REFUSED + number * NUMBER + side * SIDE + place
@@ -58,7 +58,7 @@ pub extern "C" fn dlozamife_write_record(
 {
     let answer = writer::write_record(number, profile, certificate, issuer, room);
     match answer {
-        writer::Answer::Blocks(count) => count as u64,
-        writer::Answer::Refused(r) => packed(r),
+        writer::Placing::Blocks(count) => count as u64,
+        writer::Placing::Refused(r) => packed(r),
     }
 }

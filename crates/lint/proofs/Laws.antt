@@ -1,7 +1,6 @@
 -- Laws of the definitions, by file.
 pub mod Answers
 pub mod Accepted
-pub mod Table
 pub mod Order
 pub mod Statements
 pub mod Rooms

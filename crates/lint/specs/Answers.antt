@@ -5,9 +5,9 @@ use mathlib.Core.Path.{_≡_}
 use Prim.Native.Nat.{ℕ, _*_}
 use lib.ListN.{length, take}
 use Rattle.report.specs.Entries.{width}
-use Rattle.report.specs.Answers.{fits, filled}
+use Rattle.report.specs.Answers.{enoughRoom, filled}
 use Rattle.report.specs.declared.sink.Entry.{Entry}
-use Rattle.lint.specs.Findings.{findings}
+use Rattle.rules.specs.Rules.{findings}
 use Rattle.lint.specs.Judging.{judgementOf}
 use Rattle.lint.specs.declared.judging.Judgement.{Judgement}
 use Rattle.lint.specs.declared.judging.Judgement.the-variants as Judgements
@@ -17,7 +17,7 @@ use Rattle.lint.specs.declared.linting.Answer.the-variants.{Report, Refu
 
 -- 7 "too little room", else the number of findings
 unfoldable pub answerTo : List Entry → List ℕ → Answer
-answerTo es room = cond (fits es room) (Report (length es)) (Refused NoRoom)
+answerTo es room = cond (enoughRoom es room) (Report (length es)) (Refused NoRoom)
 
 -- the answer to findings, and the room then: the findings' octets and the rest of the room, or on refusal the room as it was
 pub record Reported (es : List Entry) (room : List ℕ) (r : Answer) (last : List ℕ) : Type 0 where

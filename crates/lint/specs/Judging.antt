@@ -23,8 +23,8 @@ use Rattle.lint.specs.declared.judging.Judgement.{Judgement}
 use Rattle.lint.specs.declared.judging.Judgement.the-variants.{Accepted, Refused}
 
 -- refusals 1 and 2 are for "0 or over 8,192 bytes"
-abbrev pub lengthOk : ℕ → Bool
-lengthOk n = leb 1 n && leb n 8192
+abbrev pub sideLengthOk : ℕ → Bool
+sideLengthOk n = leb 1 n && leb n 8192
 
 -- 6 "not a certificate". (A list of elements is never a stranger.)
 abbrev pub byVerdict : Profile → Side → Verdict → Judgement
@@ -57,7 +57,9 @@ forProfile (For p) = Accepted p
 -- 1 "certificate has 0 or over 8,192 bytes", 2 "issuer has 0 or over 8,192 bytes", then 3: of sides of so many octets. The writer gives these too.
 unfoldable pub admissionOf : ℕ → ℕ → ℕ → Judgement
 admissionOf certificate issuer profile =
-    cond (lengthOk certificate) (cond (lengthOk issuer) (forProfile (askedOf profile)) (Refused Refusals.IssuerLength)) (Refused Refusals.CertificateLength)
+    cond (sideLengthOk certificate)
+    (cond (sideLengthOk issuer) (forProfile (askedOf profile)) (Refused Refusals.IssuerLength))
+    (Refused Refusals.CertificateLength)
 
 -- then 4 to 6
 abbrev pub onceAdmitted : Judgement → List ℕ → List ℕ → Judgement

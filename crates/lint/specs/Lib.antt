@@ -1,7 +1,5 @@
 -- The refusals, the findings and the linter's answer.
 pub mod Refusals
 pub mod Judging
-pub mod Findings
-pub mod Table
 pub mod Answers
 pub mod Statements

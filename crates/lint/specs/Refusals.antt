@@ -6,15 +6,15 @@ use Rattle.lint.specs.declared.refusals.Refusal.{Refusal}
 use Rattle.lint.specs.declared.refusals.Refusal.the-variants.{CertificateLength, IssuerLength, UnknownProfile, Unsound, Unordered, NotCertificate, NoRoom, NoNumber}
 
 -- "No."
-abbrev pub numberOf : Refusal → ℕ
-numberOf CertificateLength = 1
-numberOf IssuerLength = 2
-numberOf UnknownProfile = 3
-numberOf (Unsound side place) = 4
-numberOf (Unordered side place) = 5
-numberOf (NotCertificate side place) = 6
-numberOf NoRoom = 7
-numberOf NoNumber = 8
+abbrev pub refusalNumber : Refusal → ℕ
+refusalNumber CertificateLength = 1
+refusalNumber IssuerLength = 2
+refusalNumber UnknownProfile = 3
+refusalNumber (Unsound side place) = 4
+refusalNumber (Unordered side place) = 5
+refusalNumber (NotCertificate side place) = 6
+refusalNumber NoRoom = 7
+refusalNumber NoNumber = 8
 
 -- "side (1 certificate, 2 issuer, 0 neither)"
 abbrev pub sideNumber : Side → ℕ

@@ -8,7 +8,7 @@ use Rattle.der.specs.Soundness.{derSoundness}
 use Rattle.der.specs.declared.walk.Soundness.the-variants.{Sound}
 use Rattle.asn.specs.Answers.{certificateVerdict}
 use Rattle.asn.specs.declared.fitting.Verdict.the-variants.{Fits}
-use Rattle.lint.specs.Judging.{lengthOk}
+use Rattle.lint.specs.Judging.{sideLengthOk}
 use Rattle.lint.specs.declared.refusals.Side.{Side}
 use Rattle.lint.specs.declared.refusals.Side.the-variants.{Certificate, Issuer}
 use Rattle.lint.specs.declared.refusals.Refusal.{Refusal}
@@ -16,7 +16,7 @@ use Rattle.lint.specs.declared.refusals.Refusal.the-variants as Refusals
 
 -- a side that refusals 1, 2, 4, 5 and 6 leave alone
 pub record Acceptable (s : List ℕ) : Type 0 where
-  pub sized : lengthOk (length s) ≡ true
+  pub sized : sideLengthOk (length s) ≡ true
   pub sound : derSoundness s ≡ Sound
   pub fits : certificateVerdict s ≡ Fits
 

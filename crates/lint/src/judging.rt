@@ -6,7 +6,7 @@ use der::Soundness;
 use profiles::Asked;
 use profiles::Profile;
 ghost use mathlib.Core.Path.{_≡_};
-ghost use Rattle.lint.specs.Judging.{lengthOk, byVerdict, sideJudgement, bothSides, admissionOf, judgementOf};
+ghost use Rattle.lint.specs.Judging.{sideLengthOk, byVerdict, sideJudgement, bothSides, admissionOf, judgementOf};
 
 // What refusals 1 to 6 leave: a profile to lint for, or a refusal.
 pub enum Judgement {
@@ -14,8 +14,8 @@ pub enum Judgement {
     Refused(Refusal),
 }
 
-fn length_ok(n: usize) -> bool
-    ensures { λ r. ⌜ r ≡ lengthOk n ⌝ }
+fn side_length_ok(n: usize) -> bool
+    ensures { λ r. ⌜ r ≡ sideLengthOk n ⌝ }
 {
     (1 <= n) & (n <= 8192)
 }
@@ -58,10 +58,10 @@ fn judge_both(p: Profile, certificate: &[u8], issuer: &[u8]) -> Judgement
 pub fn admit(certificate: usize, issuer: usize, profile: u8) -> Judgement
     ensures { λ r. ⌜ r ≡ admissionOf certificate issuer profile ⌝ }
 {
-    if !length_ok(certificate) {
+    if !side_length_ok(certificate) {
         return Judgement::Refused(Refusal::CertificateLength);
     }
-    if !length_ok(issuer) {
+    if !side_length_ok(issuer) {
         return Judgement::Refused(Refusal::IssuerLength);
     }
     let asked = profiles::profile_of(profile);
@@ -71,7 +71,7 @@ pub fn admit(certificate: usize, issuer: usize, profile: u8) -> Judgement
     }
 }
 
-pub fn judge(certificate: &[u8], issuer: &[u8], profile: u8) -> Judgement
+pub fn examine(certificate: &[u8], issuer: &[u8], profile: u8) -> Judgement
     ensures { λ r. ⌜ r ≡ judgementOf (now (certificate .entry)) (now (issuer .entry)) profile ⌝ }
 {
     let admission = admit(certificate.len(), issuer.len(), profile);

@@ -2,15 +2,14 @@
 mod judging;
 mod linting;
 mod refusals;
-mod rules;
 
 pub use judging::Judgement;
 pub use judging::admit;
-pub use judging::judge;
+pub use judging::examine;
 pub use linting::Answer;
 pub use linting::lint;
 pub use refusals::Refusal;
 pub use refusals::Side;
-pub use refusals::number_of;
 pub use refusals::place_of;
+pub use refusals::refusal_number;
 pub use refusals::side_of;

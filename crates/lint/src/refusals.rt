@@ -1,6 +1,6 @@
 // "Refusals and their order" (document 01): number, side and place of each.
 ghost use mathlib.Core.Path.{_≡_};
-ghost use Rattle.lint.specs.Refusals.{numberOf, sideNumber, sideOf, placeOf};
+ghost use Rattle.lint.specs.Refusals.{refusalNumber, sideNumber, sideOf, placeOf};
 
 pub enum Side {
     Certificate,
@@ -27,8 +27,8 @@ pub enum Refusal {
 }
 
 // The paper's number.
-pub fn number_of(r: Refusal) -> usize
-    ensures { λ n. ⌜ n ≡ numberOf r ⌝ }
+pub fn refusal_number(r: Refusal) -> usize
+    ensures { λ n. ⌜ n ≡ refusalNumber r ⌝ }
 {
     match r {
         Refusal::CertificateLength => 1,

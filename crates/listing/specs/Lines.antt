@@ -4,7 +4,7 @@ use Prim.Native.Nat.{ℕ}
 use Prim.Native.String.{String}
 use Rattle.texts.specs.Texts.{word, fieldOf}
 use Rattle.report.specs.declared.sink.Entry.{Entry}
-use Rattle.lint.specs.Refusals.{numberOf, sideOf, placeOf}
+use Rattle.lint.specs.Refusals.{refusalNumber, sideOf, placeOf}
 use Rattle.lint.specs.declared.refusals.Refusal.{Refusal}
 use Rattle.lint.specs.declared.linting.Answer.{Answer}
 use Rattle.lint.specs.declared.linting.Answer.the-variants.{Report, Refused}
@@ -19,7 +19,7 @@ findingLine e = fieldOf "  " (e .rule) ++ (fieldOf " at " (e .place .start) ++ (
 
 -- " refused 6 side 1 at 0"
 unfoldable pub refusalText : Refusal → List ℕ
-refusalText r = fieldOf " refused " (numberOf r) ++ (fieldOf " side " (sideOf r) ++ fieldOf " at " (placeOf r))
+refusalText r = fieldOf " refused " (refusalNumber r) ++ (fieldOf " side " (sideOf r) ++ fieldOf " at " (placeOf r))
 
 -- this, or " findings 2"
 abbrev pub answerText : Answer → List ℕ

@@ -22,13 +22,13 @@ findingLines [] = []
 findingLines (e ∷ es) = findingLine e ++ findingLines es
 
 -- the entries that an answer counts, as the report's octets say them
-abbrev pub entriesOf : Answer → List ℕ → List Entry
-entriesOf (Report count) report = decode count report
-entriesOf (Refused r) report = []
+abbrev pub reportedEntries : Answer → List ℕ → List Entry
+reportedEntries (Report count) report = decode count report
+reportedEntries (Refused r) report = []
 
 -- "An unrefused record prints "record 1 profile 3 findings 2" and, for each, "  104 at 13 length 3""
 unfoldable pub recordLines : Record → List ℕ → List ℕ
-recordLines r report = recordLine r ++ findingLines (entriesOf (r .answer) report)
+recordLines r report = recordLine r ++ findingLines (reportedEntries (r .answer) report)
 
 -- what the reader hands over at a position, with the report
 abbrev pub itemLines : ℕ → Item → List ℕ → List ℕ

@@ -2,7 +2,7 @@
 use mathlib.Core.List.{List, [], _++_}
 use mathlib.Core.Path.{_≡_}
 use Prim.Native.Nat.{ℕ, zero, suc, _+_}
-use Rattle.texts.specs.Putting.{Put}
+use Rattle.texts.specs.Putting.{Spelled}
 use Rattle.listing.specs.Listing.{itemLines}
 use Rattle.listing.specs.declared.steps.Step.{Step}
 use Rattle.reader.specs.Stepping.{itemAt, roomAt, itemBlocks}
@@ -16,7 +16,7 @@ passedAt deck position room = itemBlocks (itemAt deck position room)
 
 -- one step, complete: its lines at place n of the buffer `out`, its answer r, and what room and buffer hold then
 pub record Listed (deck : List ℕ) (position n : ℕ) (room out : List ℕ) (r : Step) (left last : List ℕ) : Type 0 where
-  pub lines : Put (linesAt deck position room) n out (r .end) last
+  pub lines : Spelled (linesAt deck position room) n out (r .end) last
   pub blocks : r .passed ≡ passedAt deck position room
   pub bytes : left ≡ roomAt deck position room
 

@@ -8,14 +8,14 @@ use reader::Record;
 use report::read_entry;
 use texts::field;
 use texts::word;
-ghost use Rattle.texts.specs.Putting.{Put};
+ghost use Rattle.texts.specs.Putting.{Spelled};
 ghost use Rattle.report.specs.Entries.{entryOf, decode};
 ghost use Rattle.listing.specs.Lines.{findingLine, refusalText, answerText, recordLine, lostLine, totalLine, tooLongLine};
 ghost use Rattle.listing.specs.Listing.{findingLines, recordLines, itemLines};
 
 // The line of entry k of a report, from 0.
 pub fn finding_line(out: &mut [u8], n: usize, report: &[u8], k: usize) -> usize
-    ensures { λ r. ⌜ Put (findingLine (entryOf (now (report .entry)) k)) n (now (out .entry)) r (now (out .exit)) ⌝ }
+    ensures { λ r. ⌜ Spelled (findingLine (entryOf (now (report .entry)) k)) n (now (out .entry)) r (now (out .exit)) ⌝ }
 {
     let e = read_entry(report, k);
     let place = e.place;
@@ -26,15 +26,15 @@ pub fn finding_line(out: &mut [u8], n: usize, report: &[u8], k: usize) -> usize
 }
 
 fn refusal(out: &mut [u8], n: usize, r: Refusal) -> usize
-    ensures { λ m. ⌜ Put (refusalText r) n (now (out .entry)) m (now (out .exit)) ⌝ }
+    ensures { λ m. ⌜ Spelled (refusalText r) n (now (out .entry)) m (now (out .exit)) ⌝ }
 {
-    let a = field(out, n, b" refused ", lint::number_of(r));
+    let a = field(out, n, b" refused ", lint::refusal_number(r));
     let b = field(out, a, b" side ", lint::side_of(r));
     field(out, b, b" at ", lint::place_of(r))
 }
 
 fn outcome(out: &mut [u8], n: usize, answer: Answer) -> usize
-    ensures { λ r. ⌜ Put (answerText answer) n (now (out .entry)) r (now (out .exit)) ⌝ }
+    ensures { λ r. ⌜ Spelled (answerText answer) n (now (out .entry)) r (now (out .exit)) ⌝ }
 {
     match answer {
         Answer::Report(count) => field(out, n, b" findings ", count),
@@ -43,7 +43,7 @@ fn outcome(out: &mut [u8], n: usize, answer: Answer) -> usize
 }
 
 pub fn record_line(out: &mut [u8], n: usize, record: Record) -> usize
-    ensures { λ r. ⌜ Put (recordLine «record») n (now (out .entry)) r (now (out .exit)) ⌝ }
+    ensures { λ r. ⌜ Spelled (recordLine «record») n (now (out .entry)) r (now (out .exit)) ⌝ }
 {
     let answer = record.answer;
     let a = field(out, n, b"record ", record.number);
@@ -54,7 +54,7 @@ pub fn record_line(out: &mut [u8], n: usize, record: Record) -> usize
 
 // The block at a position.
 pub fn lost_line(out: &mut [u8], n: usize, position: usize, loss: Loss) -> usize
-    ensures { λ r. ⌜ Put (lostLine position loss) n (now (out .entry)) r (now (out .exit)) ⌝ }
+    ensures { λ r. ⌜ Spelled (lostLine position loss) n (now (out .entry)) r (now (out .exit)) ⌝ }
 {
     let a = field(out, n, b"lost ", position);
     match loss {
@@ -65,7 +65,7 @@ pub fn lost_line(out: &mut [u8], n: usize, position: usize, loss: Loss) -> usize
 }
 
 pub fn total_line(out: &mut [u8], n: usize, counts: Counts, blocks: usize) -> usize
-    ensures { λ r. ⌜ Put (totalLine counts blocks) n (now (out .entry)) r (now (out .exit)) ⌝ }
+    ensures { λ r. ⌜ Spelled (totalLine counts blocks) n (now (out .entry)) r (now (out .exit)) ⌝ }
 {
     let a = field(out, n, b"records ", counts.records);
     let b = field(out, a, b" blocks ", blocks);
@@ -74,14 +74,14 @@ pub fn total_line(out: &mut [u8], n: usize, counts: Counts, blocks: usize) -> us
 }
 
 pub fn too_long(out: &mut [u8], n: usize) -> usize
-    ensures { λ r. ⌜ Put tooLongLine n (now (out .entry)) r (now (out .exit)) ⌝ }
+    ensures { λ r. ⌜ Spelled tooLongLine n (now (out .entry)) r (now (out .exit)) ⌝ }
 {
     word(out, n, b"deck too long\n")
 }
 
 // The lines of the first `count` entries of a report.
 fn finding_lines(out: &mut [u8], n: usize, report: &[u8], count: usize) -> usize
-    ensures { λ r. ⌜ Put (findingLines (decode count (now (report .entry)))) n (now (out .entry)) r (now (out .exit)) ⌝ }
+    ensures { λ r. ⌜ Spelled (findingLines (decode count (now (report .entry)))) n (now (out .entry)) r (now (out .exit)) ⌝ }
 {
     let mut m = n;
     let mut k: usize = 0;
@@ -93,7 +93,7 @@ fn finding_lines(out: &mut [u8], n: usize, report: &[u8], count: usize) -> usize
 }
 
 fn record_lines(out: &mut [u8], n: usize, record: Record, report: &[u8]) -> usize
-    ensures { λ r. ⌜ Put (recordLines «record» (now (report .entry))) n (now (out .entry)) r (now (out .exit)) ⌝ }
+    ensures { λ r. ⌜ Spelled (recordLines «record» (now (report .entry))) n (now (out .entry)) r (now (out .exit)) ⌝ }
 {
     let m = record_line(out, n, record);
     let answer = record.answer;
@@ -105,7 +105,7 @@ fn record_lines(out: &mut [u8], n: usize, record: Record, report: &[u8]) -> usiz
 
 // All lines of what a step of the reader hands out at a position, with the report that it leaves in the room.
 pub fn item_lines(out: &mut [u8], n: usize, position: usize, item: Item, report: &[u8]) -> usize
-    ensures { λ r. ⌜ Put (itemLines position item (now (report .entry))) n (now (out .entry)) r (now (out .exit)) ⌝ }
+    ensures { λ r. ⌜ Spelled (itemLines position item (now (report .entry))) n (now (out .entry)) r (now (out .exit)) ⌝ }
 {
     match item {
         Item::Record(record) => record_lines(out, n, record, report),

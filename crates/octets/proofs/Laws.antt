@@ -7,3 +7,4 @@ pub mod Same
 pub mod Places
 pub mod Copying
 pub mod Writing
+pub mod Finite

@@ -1,3 +1,2 @@
 -- The elements of a certificate, and the statement that every entry of a report is at one of them. Read them in this order.
-pub mod Elements
 pub mod Statement

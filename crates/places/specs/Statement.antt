@@ -4,14 +4,14 @@ use mathlib.Core.Path.{_≡_}
 use mathlib.Core.Bool.{true}
 use mathlib.Core.List.{List}
 use Prim.Native.Nat.{ℕ, _-_}
-use Rattle.places.specs.Elements.{Element}
+use Rattle.facts.specs.Elements.{Element}
 use Rattle.der.specs.Contents.{elementOk}
 use Rattle.der.specs.declared.header.Head.{Head}
 use Rattle.profiles.specs.declared.fields.Profile.{Profile}
 use Rattle.report.specs.Entries.{decode}
 use Rattle.report.specs.Order.{In}
 use Rattle.report.specs.declared.sink.Entry.{Entry}
-use Rattle.lint.specs.Findings.{findings}
+use Rattle.rules.specs.Rules.{findings}
 use Rattle.lint.specs.Judging.{judgementOf}
 use Rattle.lint.specs.Answers.{answerOf, roomOf}
 use Rattle.lint.specs.declared.judging.Judgement.the-variants.{Accepted}

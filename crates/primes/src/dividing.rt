@@ -2,7 +2,7 @@
 // residues of that for the primes in it.
 use crate::table::PRIMES;
 use crate::table::PRODUCTS;
-use crate::words::word;
+use crate::words::word_at;
 use numbers::small;
 ghost use mathlib.Core.Path.{_≡_};
 ghost use mathlib.Core.Bool.{true};
@@ -29,7 +29,7 @@ fn residue(s: &[u8], body: usize, end: usize, m: u64) -> u64
     let mut i = body + octets::minus(end, body) % 4;
     let mut r = small(s, body, i) as u64;
     while i < end {
-        r = step(r, a, b, word(s, i));
+        r = step(r, a, b, word_at(s, i));
         i += 4;
     }
     r % m

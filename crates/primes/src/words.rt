@@ -16,7 +16,7 @@ fn four(a: u8, b: u8, c: u8, d: u8) -> u64
 }
 
 // The four octets from i on, high octet first.
-pub fn word(s: &[u8], i: usize) -> u64
+pub fn word_at(s: &[u8], i: usize) -> u64
     ensures { λ r. ⌜ (r ≡ wordAt (now (s .entry)) i) × (r < 2 ^ 32) ⌝ }
 {
     if i < s.len() {

@@ -1,29 +1,32 @@
--- The columns of document 01's table ("Rules on extensions"), slot by slot from 0 to 11: there is no slot 0 and no slot 11.
+-- The table of rules and document 01's table of extensions ("Rules on extensions") agree on rules 301 to 350, in each profile.
 use mathlib.Core.Path.{_≡_, refl}
 use mathlib.Core.List.{List, [], _∷_, map}
-use Prim.Native.Nat.{ℕ}
-use Rattle.profiles.specs.Extensions.{markOf, mustBeCritical}
+use Prim.Native.Nat.{ℕ, _+_}
+use Rattle.profiles.specs.Extensions.{markOf, isMandatory, isJudged}
+use Rattle.profiles.specs.Judged.{judgedIn, rowOf, isOneOf, judges}
 use Rattle.profiles.specs.declared.fields.Profile.{Profile}
 use Rattle.profiles.specs.declared.fields.Profile.the-variants.{Domain, Organization, Responder}
-use Rattle.profiles.specs.declared.extensions.Mark.{Mark}
-use Rattle.profiles.specs.declared.extensions.Mark.the-variants.{Mandatory, Optional, Forbidden, Other, Unlisted}
 
+-- from 0 to 19, so that every number from 300 to 359 is asked for
 abbrev pub slots : List ℕ
-slots = 0 ∷ 1 ∷ 2 ∷ 3 ∷ 4 ∷ 5 ∷ 6 ∷ 7 ∷ 8 ∷ 9 ∷ 10 ∷ 11 ∷ []
+slots = 0 ∷ 1 ∷ 2 ∷ 3 ∷ 4 ∷ 5 ∷ 6 ∷ 7 ∷ 8 ∷ 9 ∷ 10 ∷ 11 ∷ 12 ∷ 13 ∷ 14 ∷ 15 ∷ 16 ∷ 17 ∷ 18 ∷ 19 ∷ []
 
-abbrev pub serverColumn : List Mark
-serverColumn =
-    Unlisted ∷ Mandatory ∷ Mandatory ∷ Mandatory ∷ Mandatory ∷ Mandatory ∷ Mandatory ∷ Mandatory ∷ Mandatory ∷ Optional ∷ Other ∷ Unlisted ∷ []
+-- 300+s "an M missing"
+pub missing-judged : (p : Profile) → map (λ s. judges p (300 + s)) slots ≡ map (λ s. isMandatory (markOf p s)) slots
+unfolding judges judgedIn rowOf isOneOf
+missing-judged Domain = refl
+missing-judged Organization = refl
+missing-judged Responder = refl
 
-abbrev pub responderColumn : List Mark
-responderColumn =
-    Unlisted ∷ Mandatory ∷ Forbidden ∷ Mandatory ∷ Mandatory ∷ Mandatory ∷ Mandatory ∷ Optional ∷ Mandatory ∷ Optional ∷ Mandatory ∷ Unlisted ∷ []
+-- 320+s and 340+s: "an extension marked "no" or "other" gets neither"
+pub criticality-judged : (p : Profile) → map (λ s. judges p (320 + s)) slots ≡ map (λ s. isJudged (markOf p s)) slots
+unfolding judges judgedIn rowOf isOneOf
+criticality-judged Domain = refl
+criticality-judged Organization = refl
+criticality-judged Responder = refl
 
-pub domain-marks : map (λ s. markOf Domain s) slots ≡ serverColumn
-domain-marks = refl
-
-pub organization-marks : map (λ s. markOf Organization s) slots ≡ serverColumn
-organization-marks = refl
-
-pub responder-marks : map (λ s. markOf Responder s) slots ≡ responderColumn
-responder-marks = refl
+pub value-judged : (p : Profile) → map (λ s. judges p (340 + s)) slots ≡ map (λ s. isJudged (markOf p s)) slots
+unfolding judges judgedIn rowOf isOneOf
+value-judged Domain = refl
+value-judged Organization = refl
+value-judged Responder = refl

@@ -1,2 +1,3 @@
--- What the tables say, computed.
+-- What the tables say, computed; laws of the table of rules.
 pub mod Examples
+pub mod Laws

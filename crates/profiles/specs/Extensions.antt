@@ -1,27 +1,50 @@
 -- Document 01's table ("Rules on extensions"), column by column, and what its words mean for the rules.
-use mathlib.Core.Bool.{Bool, true, false, cond, _&&_, _||_}
+use mathlib.Core.Bool.{Bool, true, false, cond, not, _||_}
+use mathlib.Core.List.{List, [], _∷_}
 use Prim.Native.Nat.{ℕ}
-use lib.Dec.{leb, eqb}
-use Rattle.profiles.specs.Fields.{isServer}
+use lib.Dec.{eqb}
+use lib.ListN.{getD}
 use Rattle.profiles.specs.declared.fields.Profile.{Profile}
+use Rattle.profiles.specs.declared.fields.Profile.the-variants.{Domain, Organization, Responder}
 use Rattle.profiles.specs.declared.extensions.Mark.{Mark}
 use Rattle.profiles.specs.declared.extensions.Mark.the-variants.{Mandatory, Optional, Forbidden, Other, Unlisted}
+use Rattle.profiles.specs.declared.extensions.Criticality.{Criticality}
+use Rattle.profiles.specs.declared.extensions.Criticality.the-variants.{Must, MustNot, NotJudged}
 
--- column S: 9 is opt, 10 is other, all the rest M
-abbrev pub serverMark : ℕ → Mark
-serverMark slot = cond (eqb slot 9) Optional (cond (eqb slot 10) Other Mandatory)
+-- columns S and O, from slot 1 on: authority key id, basic constraints, subject key id, key usage, extended key usage, policies, alternative name,
+-- AIA, CRL points, nocheck
+abbrev pub serverColumn : List Mark
+serverColumn =
+    Mandatory ∷ Mandatory ∷ Mandatory ∷ Mandatory ∷ Mandatory ∷ Mandatory ∷ Mandatory ∷ Mandatory ∷ Optional ∷ Other ∷ []
 
--- column O: 2 is no, 7 and 9 are opt, all the rest M
-abbrev pub responderMark : ℕ → Mark
-responderMark slot = cond (eqb slot 2) Forbidden (cond (eqb slot 7 || eqb slot 9) Optional Mandatory)
+abbrev pub responderColumn : List Mark
+responderColumn =
+    Mandatory ∷ Forbidden ∷ Mandatory ∷ Mandatory ∷ Mandatory ∷ Mandatory ∷ Optional ∷ Mandatory ∷ Optional ∷ Mandatory ∷ []
 
--- the rows are 1 to 10; an extension that is in none is unlisted
+-- what a column says of a slot; slot 0 stands for the extensions that are not in the table
+abbrev pub markIn : List Mark → ℕ → Mark
+markIn column slot = getD (Unlisted ∷ column) slot Unlisted
+
 abbrev pub markOf : Profile → ℕ → Mark
-markOf p slot = cond (leb 1 slot && leb slot 10) (cond (isServer p) (serverMark slot) (responderMark slot)) Unlisted
+markOf Domain slot = markIn serverColumn slot
+markOf Organization slot = markIn serverColumn slot
+markOf Responder slot = markIn responderColumn slot
+
+-- "crit", or none: an extension without it must not be critical
+abbrev pub critIf : Bool → Criticality
+critIf written = cond written Must MustNot
 
 -- "crit": basic constraints 2 and key usage 4 in column S, key usage 4 and extended key usage 5 in column O
-abbrev pub mustBeCritical : Profile → ℕ → Bool
-mustBeCritical p slot = cond (isServer p) (eqb slot 2 || eqb slot 4) (eqb slot 4 || eqb slot 5)
+abbrev pub criticalityOf : Profile → ℕ → Criticality
+criticalityOf Domain slot = critIf (eqb slot 2 || eqb slot 4)
+criticalityOf Organization slot = critIf (eqb slot 2 || eqb slot 4)
+criticalityOf Responder slot = critIf (eqb slot 4 || eqb slot 5)
+
+-- 320+s "critical where the table has no "crit", or the reverse"
+abbrev pub isMiscritical : Criticality → Bool → Bool
+isMiscritical Must critical = not critical
+isMiscritical MustNot critical = critical
+isMiscritical NotJudged critical = false
 
 -- 300+s "an M missing"
 abbrev pub isMandatory : Mark → Bool

@@ -1,5 +1,6 @@
--- The profiles by their numbers (document 01, first paragraph), and what they ask of fields ("Rules on fields").
-use mathlib.Core.Bool.{Bool, true, false, cond, not, _&&_, _||_}
+-- The profiles by their numbers (document 01, first paragraph), and what they ask of fields, subject and key ("Rules on fields"). What differs between
+-- profiles is said by one arm a profile.
+use mathlib.Core.Bool.{Bool, true, false, cond, _||_}
 use Prim.Native.Nat.{ℕ}
 use lib.Dec.{eqb}
 use Rattle.profiles.specs.declared.fields.Profile.{Profile}
@@ -14,23 +15,10 @@ askedOf number =
     (cond (eqb number 2) (For Organization)
     (cond (eqb number 3) (For Responder) Unknown))
 
--- "S is profiles 1 and 2, O is 3"
-abbrev pub isServer : Profile → Bool
-isServer Domain = true
-isServer Organization = true
-isServer Responder = false
-
--- "(1)"
-abbrev pub isDomain : Profile → Bool
-isDomain Domain = true
-isDomain Organization = false
-isDomain Responder = false
-
--- "(2)"
-abbrev pub isOrganization : Profile → Bool
-isOrganization Domain = false
-isOrganization Organization = true
-isOrganization Responder = false
+abbrev pub profileNumber : Profile → ℕ
+profileNumber Domain = 1
+profileNumber Organization = 2
+profileNumber Responder = 3
 
 -- 111 "at most 395 days (S), 45 days (O)"
 abbrev pub maxDays : Profile → ℕ
@@ -38,8 +26,31 @@ maxDays Domain = 395
 maxDays Organization = 395
 maxDays Responder = 45
 
--- 112 "CN, C (1); CN, C, O, ST (2); CN, C, O, OU (O)", each by its arc below 2.5.4 (X.520): CN 3, C 6, O 10, ST 8, OU 11
+-- ---- attributes, by their arcs below 2.5.4 (X.520)
+
+abbrev pub commonName : ℕ
+commonName = 3
+
+abbrev pub country : ℕ
+country = 6
+
+abbrev pub stateOrProvince : ℕ
+stateOrProvince = 8
+
+abbrev pub organization : ℕ
+organization = 10
+
+abbrev pub organizationalUnit : ℕ
+organizationalUnit = 11
+
+-- 112 "CN, C (1); CN, C, O, ST (2); CN, C, O, OU (O)"
 abbrev pub allowsAttribute : Profile → ℕ → Bool
-allowsAttribute p arc =
-    (eqb arc 3 || eqb arc 6)
-    || (not (isDomain p) && eqb arc 10 || (isOrganization p && eqb arc 8 || not (isServer p) && eqb arc 11))
+allowsAttribute Domain arc = eqb arc commonName || eqb arc country
+allowsAttribute Organization arc = eqb arc commonName || (eqb arc country || (eqb arc organization || eqb arc stateOrProvince))
+allowsAttribute Responder arc = eqb arc commonName || (eqb arc country || (eqb arc organization || eqb arc organizationalUnit))
+
+-- 201 "rsaEncryption, or (S) ecPublicKey"
+abbrev pub takesCurves : Profile → Bool
+takesCurves Domain = true
+takesCurves Organization = true
+takesCurves Responder = false

@@ -1,3 +1,6 @@
 -- The profiles and their tables.
 pub mod Fields
 pub mod Extensions
+pub mod Values
+pub mod Judged
+pub mod Bits

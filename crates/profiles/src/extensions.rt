@@ -1,8 +1,8 @@
 // Document 01's table of extensions ("Rules on extensions"), and what its words mean for the rules.
 use crate::fields::Profile;
-use crate::fields::is_server;
 ghost use mathlib.Core.Path.{_≡_};
-ghost use Rattle.profiles.specs.Extensions.{serverMark, responderMark, markOf, mustBeCritical, isMandatory, isJudged, isOutOfPlace, isUnwanted};
+ghost use Rattle.profiles.specs.Extensions.{serverColumn, responderColumn, markIn, markOf, isUnwanted, isOutOfPlace};
+ghost use Rattle.profiles.specs.Extensions.{critIf, criticalityOf, isMiscritical};
 
 // The table's words: M, opt, no, other. An extension that is in no row is unlisted.
 pub enum Mark {
@@ -13,76 +13,89 @@ pub enum Mark {
     Unlisted,
 }
 
+// Whether an extension is to be critical.
+pub enum Criticality {
+    Must,
+    MustNot,
+    NotJudged,
+}
+
 fn server_mark(slot: usize) -> Mark
-    ensures { λ r. ⌜ r ≡ serverMark slot ⌝ }
+    ensures { λ r. ⌜ r ≡ markIn serverColumn slot ⌝ }
 {
-    if slot == 9 {
-        return Mark::Optional;
+    match slot {
+        1 => Mark::Mandatory,
+        2 => Mark::Mandatory,
+        3 => Mark::Mandatory,
+        4 => Mark::Mandatory,
+        5 => Mark::Mandatory,
+        6 => Mark::Mandatory,
+        7 => Mark::Mandatory,
+        8 => Mark::Mandatory,
+        9 => Mark::Optional,
+        10 => Mark::Other,
+        _ => Mark::Unlisted,
     }
-    if slot == 10 {
-        return Mark::Other;
-    }
-    Mark::Mandatory
 }
 
 fn responder_mark(slot: usize) -> Mark
-    ensures { λ r. ⌜ r ≡ responderMark slot ⌝ }
+    ensures { λ r. ⌜ r ≡ markIn responderColumn slot ⌝ }
 {
-    if slot == 2 {
-        return Mark::Forbidden;
+    match slot {
+        1 => Mark::Mandatory,
+        2 => Mark::Forbidden,
+        3 => Mark::Mandatory,
+        4 => Mark::Mandatory,
+        5 => Mark::Mandatory,
+        6 => Mark::Mandatory,
+        7 => Mark::Optional,
+        8 => Mark::Mandatory,
+        9 => Mark::Optional,
+        10 => Mark::Mandatory,
+        _ => Mark::Unlisted,
     }
-    if (slot == 7) | (slot == 9) {
-        return Mark::Optional;
-    }
-    Mark::Mandatory
 }
 
 // What a profile's column says of the extension in this slot.
 pub fn mark_of(p: Profile, slot: usize) -> Mark
     ensures { λ r. ⌜ r ≡ markOf p slot ⌝ }
 {
-    if (1 <= slot) & (slot <= 10) {
-        if is_server(p) {
-            return server_mark(slot);
-        }
-        return responder_mark(slot);
+    match p {
+        Profile::Domain => server_mark(slot),
+        Profile::Organization => server_mark(slot),
+        Profile::Responder => responder_mark(slot),
     }
-    Mark::Unlisted
+}
+
+// "crit", or none.
+fn crit(written: bool) -> Criticality
+    ensures { λ r. ⌜ r ≡ critIf written ⌝ }
+{
+    if written {
+        return Criticality::Must;
+    }
+    Criticality::MustNot
 }
 
 // Whether the column has "crit".
-pub fn must_be_critical(p: Profile, slot: usize) -> bool
-    ensures { λ r. ⌜ r ≡ mustBeCritical p slot ⌝ }
+pub fn criticality_of(p: Profile, slot: usize) -> Criticality
+    ensures { λ r. ⌜ r ≡ criticalityOf p slot ⌝ }
 {
-    if is_server(p) {
-        return (slot == 2) | (slot == 4);
-    }
-    (slot == 4) | (slot == 5)
-}
-
-// Rules 300+s.
-pub fn is_mandatory(r: Mark) -> bool
-    ensures { λ b. ⌜ b ≡ isMandatory r ⌝ }
-{
-    match r {
-        Mark::Mandatory => true,
-        Mark::Optional => false,
-        Mark::Forbidden => false,
-        Mark::Other => false,
-        Mark::Unlisted => false,
+    match p {
+        Profile::Domain => crit((slot == 2) | (slot == 4)),
+        Profile::Organization => crit((slot == 2) | (slot == 4)),
+        Profile::Responder => crit((slot == 4) | (slot == 5)),
     }
 }
 
-// Rules 320+s and 340+s: "an extension marked 'no' or 'other' gets neither".
-pub fn is_judged(r: Mark) -> bool
-    ensures { λ b. ⌜ b ≡ isJudged r ⌝ }
+// Rules 320+s: whether an extension is critical and must not be, or the reverse.
+pub fn is_miscritical(wanted: Criticality, critical: bool) -> bool
+    ensures { λ r. ⌜ r ≡ isMiscritical wanted critical ⌝ }
 {
-    match r {
-        Mark::Mandatory => true,
-        Mark::Optional => true,
-        Mark::Forbidden => false,
-        Mark::Other => false,
-        Mark::Unlisted => false,
+    match wanted {
+        Criticality::Must => !critical,
+        Criticality::MustNot => critical,
+        Criticality::NotJudged => false,
     }
 }
 

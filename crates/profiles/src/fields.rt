@@ -1,6 +1,6 @@
-// The profiles by their numbers, and what they ask of fields and of the subject's attributes.
+// The profiles by their numbers, and what they ask of fields, subject and key: one arm a profile.
 ghost use mathlib.Core.Path.{_≡_};
-ghost use Rattle.profiles.specs.Fields.{askedOf, isServer, isDomain, isOrganization, maxDays, allowsAttribute};
+ghost use Rattle.profiles.specs.Fields.{askedOf, maxDays, allowsAttribute, takesCurves};
 
 // 1 server, domain validation; 2 server, organization validation; 3 delegated OCSP responder.
 pub enum Profile {
@@ -26,37 +26,6 @@ pub fn profile_of(number: u8) -> Asked
     }
 }
 
-// S of document 01: profiles 1 and 2.
-pub fn is_server(p: Profile) -> bool
-    ensures { λ r. ⌜ r ≡ isServer p ⌝ }
-{
-    match p {
-        Profile::Domain => true,
-        Profile::Organization => true,
-        Profile::Responder => false,
-    }
-}
-
-pub fn is_domain(p: Profile) -> bool
-    ensures { λ r. ⌜ r ≡ isDomain p ⌝ }
-{
-    match p {
-        Profile::Domain => true,
-        Profile::Organization => false,
-        Profile::Responder => false,
-    }
-}
-
-pub fn is_organization(p: Profile) -> bool
-    ensures { λ r. ⌜ r ≡ isOrganization p ⌝ }
-{
-    match p {
-        Profile::Domain => false,
-        Profile::Organization => true,
-        Profile::Responder => false,
-    }
-}
-
 // Rule 111: the longest validity.
 pub fn max_days(p: Profile) -> u16
     ensures { λ r. ⌜ r ≡ maxDays p ⌝ }
@@ -72,9 +41,20 @@ pub fn max_days(p: Profile) -> u16
 pub fn allows_attribute(p: Profile, arc: u8) -> bool
     ensures { λ r. ⌜ r ≡ allowsAttribute p arc ⌝ }
 {
-    let always = (arc == 3) | (arc == 6);
-    let organization = !is_domain(p) & (arc == 10);
-    let state = is_organization(p) & (arc == 8);
-    let unit = !is_server(p) & (arc == 11);
-    always | (organization | (state | unit))
+    match p {
+        Profile::Domain => (arc == 3) | (arc == 6),
+        Profile::Organization => (arc == 3) | ((arc == 6) | ((arc == 10) | (arc == 8))),
+        Profile::Responder => (arc == 3) | ((arc == 6) | ((arc == 10) | (arc == 11))),
+    }
+}
+
+// Rule 201: whether a key on an elliptic curve is good.
+pub fn takes_curves(p: Profile) -> bool
+    ensures { λ r. ⌜ r ≡ takesCurves p ⌝ }
+{
+    match p {
+        Profile::Domain => true,
+        Profile::Organization => true,
+        Profile::Responder => false,
+    }
 }

@@ -1,19 +1,26 @@
-// The profiles, and what sets them apart: small tables, so that a rule is written once for all of them.
+// The profiles, and what sets them apart: which rules they judge, and small tables of what they ask, so that a rule is
+// written once for all of them.
 mod extensions;
 mod fields;
+mod judged;
+mod values;
 
+pub use extensions::Criticality;
 pub use extensions::Mark;
-pub use extensions::is_judged;
-pub use extensions::is_mandatory;
+pub use extensions::criticality_of;
+pub use extensions::is_miscritical;
 pub use extensions::is_out_of_place;
 pub use extensions::is_unwanted;
 pub use extensions::mark_of;
-pub use extensions::must_be_critical;
 pub use fields::Asked;
 pub use fields::Profile;
 pub use fields::allows_attribute;
-pub use fields::is_domain;
-pub use fields::is_organization;
-pub use fields::is_server;
 pub use fields::max_days;
 pub use fields::profile_of;
+pub use fields::takes_curves;
+pub use judged::holds;
+pub use values::allows_purpose;
+pub use values::usage_with_curve;
+pub use values::usage_with_rsa;
+pub use values::wanted_purpose;
+pub use values::wants_forum;

@@ -5,9 +5,9 @@ use mathlib.Core.List.{List, [], _∷_}
 use Prim.Native.Nat.{ℕ, zero, suc, pred}
 use lib.Dec.{ltb}
 use lib.ListN.{length}
-use Rattle.blocks.specs.Block.{sound, numberOf, lengthOf}
+use Rattle.blocks.specs.Block.{sound, recordNumber, recordLength}
 use Rattle.blocks.specs.Record.{parts}
-use Rattle.reader.specs.Runs.{blocks, first, starts, recordFrom}
+use Rattle.reader.specs.Runs.{blocks, firstBlock, starts, recordFrom}
 use Rattle.reader.specs.declared.finding.Loss.{Loss}
 use Rattle.reader.specs.declared.finding.Loss.the-variants.{Short, Unsound, Stray}
 
@@ -27,12 +27,12 @@ lossOf b = lossIf (ltb (length b) 512) (sound b)
 
 -- what stands at the first of the blocks, whose position is given, where a run starts there and where not
 abbrev pub eventIf : Bool → ℕ → List (List ℕ) → Event
-eventIf true position bs = record-at position (numberOf (first bs)) (recordFrom bs)
-eventIf false position bs = lost-at position (lossOf (first bs))
+eventIf true position bs = record-at position (recordNumber (firstBlock bs)) (recordFrom bs)
+eventIf false position bs = lost-at position (lossOf (firstBlock bs))
 
 -- how many blocks after the first belong to it
 abbrev pub moreIf : Bool → List (List ℕ) → ℕ
-moreIf true bs = pred (parts (lengthOf (first bs)))
+moreIf true bs = pred (parts (recordLength (firstBlock bs)))
 moreIf false bs = 0
 
 -- the blocks from a position on, of which the first `skip` belong to a record that has been handed out

@@ -5,14 +5,14 @@ use Prim.Native.Nat.{ℕ, zero, suc, _+_}
 use lib.Dec.{ltb}
 use lib.ListN.{drop}
 use Rattle.blocks.specs.Tests.{_and_}
-use Rattle.blocks.specs.Block.{lengthOf}
+use Rattle.blocks.specs.Block.{recordLength}
 use Rattle.blocks.specs.Record.{parts}
-use Rattle.reader.specs.Runs.{first, starts}
+use Rattle.reader.specs.Runs.{firstBlock, starts}
 use Rattle.reader.specs.Events.{Event, eventIf}
 
 -- how many blocks the run has that starts at position a
 abbrev pub runLength : List (List ℕ) → ℕ → ℕ
-runLength bs a = parts (lengthOf (first (drop a bs)))
+runLength bs a = parts (recordLength (firstBlock (drop a bs)))
 
 -- the block at position i lies in a run that starts at a position below a
 abbrev pub inRun : List (List ℕ) → ℕ → ℕ → Bool

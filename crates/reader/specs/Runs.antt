@@ -6,8 +6,8 @@ use Prim.Native.Nat.{ℕ, zero, suc, _+_, _-_, _*_, _/_}
 use lib.Dec.{eqb, leb}
 use lib.ListN.{length, getD, take, drop}
 use Rattle.blocks.specs.Tests.{_and_}
-use Rattle.blocks.specs.Block.{sound, numberOf, lengthOf, partOf, isClear, dataOf}
-use Rattle.blocks.specs.Record.{isRecordLength, parts, zeros, certificateLength}
+use Rattle.blocks.specs.Block.{sound, recordNumber, recordLength, partOf, isClear, dataOf}
+use Rattle.blocks.specs.Record.{isRecordLength, parts, areZero, certificateLength}
 
 -- ---- the blocks of a deck, the last perhaps short
 
@@ -27,14 +27,14 @@ from deck position = drop position (blocks deck)
 abbrev pub blockAt : List ℕ → ℕ → List ℕ
 blockAt deck position = take 512 (drop (512 * position) deck)
 
-abbrev pub first : List (List ℕ) → List ℕ
-first bs = getD bs 0 []
+abbrev pub firstBlock : List (List ℕ) → List ℕ
+firstBlock bs = getD bs 0 []
 
 -- ---- runs
 
 -- the block is sound, and part j of record `number` whose length is n
 unfoldable pub isPart : ℕ → ℕ → ℕ → List ℕ → Bool
-isPart number n j b = sound b and (eqb (numberOf b) number and (eqb (lengthOf b) n and (eqb (partOf b) j and isClear b)))
+isPart number n j b = sound b and (eqb (recordNumber b) number and (eqb (recordLength b) n and (eqb (partOf b) j and isClear b)))
 
 -- the first k blocks are its parts from j on
 abbrev pub areParts : ℕ → ℕ → ℕ → ℕ → List (List ℕ) → Bool
@@ -50,7 +50,7 @@ dataFrom (suc k) (b ∷ bs) = dataOf b ++ dataFrom k bs
 
 -- of the data of a record of n octets: "fill zero, certificate length at most N−3"
 unfoldable pub isWhole : ℕ → List ℕ → Bool
-isWhole n content = zeros (drop n content) and leb (certificateLength content) (n - 3)
+isWhole n content = areZero (drop n content) and leb (certificateLength content) (n - 3)
 
 -- the blocks begin with a run, that of record `number` whose length is n
 unfoldable pub run : ℕ → ℕ → List (List ℕ) → Bool
@@ -59,8 +59,8 @@ run number n bs =
 
 -- a run starts at the first of the blocks, whose fields say which
 unfoldable pub starts : List (List ℕ) → Bool
-starts bs = run (numberOf (first bs)) (lengthOf (first bs)) bs
+starts bs = run (recordNumber (firstBlock bs)) (recordLength (firstBlock bs)) bs
 
 -- the octets of the record whose run it is
 unfoldable pub recordFrom : List (List ℕ) → List ℕ
-recordFrom bs = take (lengthOf (first bs)) (dataFrom (parts (lengthOf (first bs))) bs)
+recordFrom bs = take (recordLength (firstBlock bs)) (dataFrom (parts (recordLength (firstBlock bs))) bs)

@@ -6,7 +6,7 @@ use mathlib.Core.Path.{_≡_}
 use Prim.Native.Nat.{ℕ, _*_}
 use lib.Dec.{ltb}
 use lib.ListN.{length}
-use Rattle.blocks.specs.Record.{parts, profileIn, certificateIn, issuerIn}
+use Rattle.blocks.specs.Record.{parts, profileIn, certificateOctets, issuerOctets}
 use Rattle.lint.specs.Answers.{answerOf, roomOf}
 use Rattle.reader.specs.Runs.{from, starts}
 use Rattle.reader.specs.Events.{Event, record-at, lost-at, eventIf}
@@ -21,11 +21,11 @@ lintedRecord number p room =
       number = number;
       profile = profileIn p;
       length = length p;
-      answer = answerOf (certificateIn p) (issuerIn p) (profileIn p) room;
+      answer = answerOf (certificateOctets p) (issuerOctets p) (profileIn p) room;
     }
 
 unfoldable pub lintedRoom : List ℕ → List ℕ → List ℕ
-lintedRoom p room = roomOf (certificateIn p) (issuerIn p) (profileIn p) room
+lintedRoom p room = roomOf (certificateOctets p) (issuerOctets p) (profileIn p) room
 
 -- an event as the reader hands it out, and the room then
 abbrev pub itemOf : List ℕ → Event → Item

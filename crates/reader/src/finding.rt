@@ -40,9 +40,9 @@ fn block_at(deck: &[u8], position: usize) -> &[u8]
 fn is_part(number: usize, n: usize, j: usize, block: &[u8]) -> bool
     ensures { λ r. ⌜ r ≡ isPart number n j (now (block .entry)) ⌝ }
 {
-    if blocks::is_sound(block) {
-        return (blocks::number_of(block) == number)
-            & (blocks::length_of(block) == n)
+    if blocks::is_sound_block(block) {
+        return (blocks::record_number(block) == number)
+            & (blocks::record_length(block) == n)
             & (blocks::part_of(block) == j)
             & blocks::is_clear(block);
     }
@@ -72,8 +72,8 @@ fn is_start(deck: &[u8], position: usize) -> bool
     ensures { λ r. ⌜ r ≡ starts (from (now (deck .entry)) position) ⌝ }
 {
     let block = block_at(deck, position);
-    let number = blocks::number_of(block);
-    let n = blocks::length_of(block);
+    let number = blocks::record_number(block);
+    let n = blocks::record_length(block);
     if (number == 0) | !blocks::is_record_length(n) {
         return false;
     }
@@ -93,12 +93,12 @@ pub fn find(deck: &[u8], position: usize) -> Found
         return Found::End;
     }
     if is_start(deck, position) {
-        return Found::Record(blocks::number_of(block), blocks::length_of(block));
+        return Found::Record(blocks::record_number(block), blocks::record_length(block));
     }
     if block.len() < 512 {
         return Found::Lost(Loss::Short);
     }
-    if blocks::is_sound(block) {
+    if blocks::is_sound_block(block) {
         return Found::Lost(Loss::Stray);
     }
     Found::Lost(Loss::Unsound)

@@ -12,7 +12,7 @@ use Rattle.reader.specs.Stepping.{itemBlocks}
 use Rattle.reader.specs.Walking.{Handed}
 use Rattle.reader.specs.declared.stepping.Record.{Record}
 use Rattle.reader.specs.declared.stepping.Item.the-variants as Items
-use Rattle.recovery.specs.Submitted.{Submitted, octetsOf}
+use Rattle.recovery.specs.Submitted.{Submitted, submittedOctets}
 use Rattle.recovery.specs.Spoiling.{allSound}
 
 -- the record as it was submitted, with the linter's answer to it alone
@@ -21,7 +21,7 @@ handedOut room number s =
     record {
       number = number;
       profile = s .profile;
-      length = length (octetsOf s);
+      length = length (submittedOctets s);
       answer = answerOf (s .certificate) (s .issuer) (s .profile) room;
     }
 
@@ -46,7 +46,7 @@ fate false room position number s bs = allLost position bs
 
 -- how many blocks a record has
 abbrev pub extent : Submitted → ℕ
-extent s = parts (length (octetsOf s))
+extent s = parts (length (submittedOctets s))
 
 -- of records that are numbered `number` and on, whose blocks, as they are now, stand from a position on
 abbrev pub expected : List ℕ → ℕ → ℕ → List Submitted → List (List ℕ) → List Handed

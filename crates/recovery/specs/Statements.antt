@@ -5,8 +5,8 @@ use Prim.Native.Nat.{ℕ, _*_, _≤_, _<_, _^_}
 use lib.ListN.{length, take}
 use Rattle.lint.specs.Answers.{roomOf}
 use Rattle.writer.specs.Answers.{writeAnswer, writeRoom}
-use Rattle.writer.specs.Cutting.{joined}
-use Rattle.writer.specs.declared.writing.Answer.the-variants.{Blocks}
+use Rattle.writer.specs.Cutting.{endToEnd}
+use Rattle.writer.specs.declared.writing.Placing.the-variants.{Blocks}
 use Rattle.reader.specs.Runs.{blocks}
 use Rattle.reader.specs.Stepping.{Stepped}
 use Rattle.reader.specs.Walking.{walk}
@@ -33,7 +33,7 @@ Recovers ss =
     (deck room : List ℕ) (steps : ℕ)
     → length ss < 2 ^ 32
     → AllWritable ss
-    → Spoiled (joined (written 1 ss)) deck
+    → Spoiled (endToEnd (written 1 ss)) deck
     → length (blocks deck) ≤ steps
     → walk steps deck 0 room ≡ expected room 0 1 ss (blocks deck)
 
@@ -44,7 +44,7 @@ NoneSpoiled ss =
     → length ss < 2 ^ 32
     → AllWritable ss
     → length (written 1 ss) ≤ steps
-    → walk steps (joined (written 1 ss)) 0 room ≡ allHandedOut room 0 1 ss
+    → walk steps (endToEnd (written 1 ss)) 0 room ≡ allHandedOut room 0 1 ss
 
 -- S7, "every other block once": each block of the deck is one of a record that is handed out, or is lost, once
 abbrev pub EachOnce : List Submitted → Type 0
@@ -52,5 +52,5 @@ EachOnce ss =
     (deck room : List ℕ)
     → length ss < 2 ^ 32
     → AllWritable ss
-    → Spoiled (joined (written 1 ss)) deck
+    → Spoiled (endToEnd (written 1 ss)) deck
     → OneBehindTheOther 0 (expected room 0 1 ss (blocks deck)) (length (blocks deck))

@@ -15,8 +15,8 @@ pub record Submitted : Type 0 where
   pub certificate : List ℕ
   pub issuer : List ℕ
 
-abbrev pub octetsOf : Submitted → List ℕ
-octetsOf s = recordOf (s .profile) (s .certificate) (s .issuer)
+abbrev pub submittedOctets : Submitted → List ℕ
+submittedOctets s = recordOf (s .profile) (s .certificate) (s .issuer)
 
 -- the writer takes it: refusals 1, 2 and 3 leave it alone
 pub record Writable (s : Submitted) : Type 0 where
@@ -30,4 +30,4 @@ AllWritable (s ∷ ss) = Writable s × AllWritable ss
 -- the blocks that the writer makes of them, numbered `number` and on
 abbrev pub written : ℕ → List Submitted → List (List ℕ)
 written number [] = []
-written number (s ∷ ss) = blocksOf number (octetsOf s) ++ written (suc number) ss
+written number (s ∷ ss) = blocksOf number (submittedOctets s) ++ written (suc number) ss

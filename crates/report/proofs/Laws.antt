@@ -7,3 +7,4 @@ pub mod Order
 pub mod Reading
 pub mod First
 pub mod Loops
+pub mod Rows

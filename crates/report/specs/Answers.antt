@@ -7,23 +7,23 @@ use Prim.Native.Nat.{ℕ, _*_}
 use lib.Dec.{leb}
 use lib.ListN.{length, drop}
 use Rattle.report.specs.declared.sink.Entry.{Entry}
-use Rattle.report.specs.Entries.{width, encode}
+use Rattle.report.specs.Entries.{width, reportOctets}
 
 -- the room is not short
-abbrev pub fits : List Entry → List ℕ → Bool
-fits es room = leb (width * length es) (length room)
+abbrev pub enoughRoom : List Entry → List ℕ → Bool
+enoughRoom es room = leb (width * length es) (length room)
 
 -- the room at the end: the findings' octets and the rest of the room, or the room as it was if it is short
 unfoldable pub filled : List Entry → List ℕ → List ℕ
-filled es room = cond (fits es room) (encode es ++ drop (width * length es) room) room
+filled es room = cond (enoughRoom es room) (reportOctets es ++ drop (width * length es) room) room
 
 -- what is known once a first pass has found the room short
 pub record Short (es : List Entry) (room last : List ℕ) : Type 0 where
-  pub short : fits es room ≡ false
+  pub short : enoughRoom es room ≡ false
   pub bytes : last ≡ filled es room
 
 -- what is known once a first pass has found room for n findings, and a second one has written them
-pub record Written (es : List Entry) (room : List ℕ) (n : ℕ) (last : List ℕ) : Type 0 where
-  pub enough : fits es room ≡ true
+pub record WrittenWhole (es : List Entry) (room : List ℕ) (n : ℕ) (last : List ℕ) : Type 0 where
+  pub enough : enoughRoom es room ≡ true
   pub count : n ≡ length es
   pub bytes : last ≡ filled es room

@@ -12,13 +12,13 @@ use Rattle.der.specs.declared.header.Head.{Head}
 abbrev pub width : ℕ
 width = 6
 
-abbrev pub octetsOf : Entry → List ℕ
-octetsOf e = pairOf (e .rule) ++ pairOf (e .place .start) ++ pairOf (e .place .len)
+abbrev pub entryOctets : Entry → List ℕ
+entryOctets e = pairOf (e .rule) ++ pairOf (e .place .start) ++ pairOf (e .place .len)
 
 -- the octets of the entries, one behind the other
-unfoldable pub encode : List Entry → List ℕ
-encode [] = []
-encode (e ∷ es) = octetsOf e ++ encode es
+unfoldable pub reportOctets : List Entry → List ℕ
+reportOctets [] = []
+reportOctets (e ∷ es) = entryOctets e ++ reportOctets es
 
 -- entry k that octets say, from 0
 unfoldable pub entryOf : List ℕ → ℕ → Entry

@@ -5,3 +5,4 @@ pub mod Putting
 pub mod Answers
 pub mod Order
 pub mod Members
+pub mod Rows

@@ -15,15 +15,15 @@ abbrev pub Before : Entry → Entry → Type 0
 Before e f = (e .rule < f .rule) ⊎ ((e .rule ≡ f .rule) × (e .place .start < f .place .start))
 
 -- each entry comes before all that are behind it
-pub data Rising : List Entry → Type 0 where
-  no-entries : Rising []
-  more-entries : {e : Entry} {es : List Entry} → ((f : Entry) → In f es → Before e f) → Rising es → Rising (e ∷ es)
+pub data RisingEntries : List Entry → Type 0 where
+  no-entries : RisingEntries []
+  more-entries : {e : Entry} {es : List Entry} → ((f : Entry) → In f es → Before e f) → RisingEntries es → RisingEntries (e ∷ es)
 
 -- the entries of the rules from `from` on and below `to`, in order
 pub record Ordered (from to : ℕ) (es : List Entry) : Type 0 where
   pub span : from ≤ to
   pub rules : (e : Entry) → In e es → (from ≤ e .rule) × (e .rule < to)
-  pub rising : Rising es
+  pub rising : RisingEntries es
 
 -- each item has an octet at least, and ends before those behind it start
 pub data Apart : List Head → Type 0 where
@@ -31,9 +31,9 @@ pub data Apart : List Head → Type 0 where
   more-items : {h : Head} {hs : List Head} → h .at < h .end → ((g : Head) → In g hs → h .end ≤ g .at) → Apart hs → Apart (h ∷ hs)
 
 -- each item has an octet at least, and lies in the octets from `from` on and before `to`
-abbrev pub Between : ℕ → ℕ → List Head → Type 0
-Between from to hs = (h : Head) → In h hs → (from ≤ h .at) × (h .at < h .end) × (h .end ≤ to)
+abbrev pub LieBetween : ℕ → ℕ → List Head → Type 0
+LieBetween from to hs = (h : Head) → In h hs → (from ≤ h .at) × (h .at < h .end) × (h .end ≤ to)
 
 -- each entry's place lies in the octets before limit
-abbrev pub Inside : List Entry → ℕ → Type 0
-Inside es limit = (e : Entry) → In e es → e .place .start + e .place .len ≤ limit
+abbrev pub EntriesInside : List Entry → ℕ → Type 0
+EntriesInside es limit = (e : Entry) → In e es → e .place .start + e .place .len ≤ limit

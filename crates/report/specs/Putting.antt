@@ -7,7 +7,7 @@ use lib.Dec.{ltb, leb}
 use lib.ListN.{length}
 use lib.Seq.{sets}
 use Rattle.report.specs.declared.sink.Entry.{Entry}
-use Rattle.report.specs.Entries.{width, octetsOf}
+use Rattle.report.specs.Entries.{width, entryOctets}
 
 -- A count goes no further than 2 ^ 61: so many entries take more octets than any room has.
 abbrev pub cap : ℕ
@@ -19,7 +19,7 @@ tick n = cond (ltb n cap) (n + 1) n
 
 -- the room with an entry behind the n that are there, if it fits
 unfoldable pub putOne : Entry → ℕ → List ℕ → List ℕ
-putOne e n room = cond (leb (width * n + width) (length room)) (sets room (width * n) (octetsOf e)) room
+putOne e n room = cond (leb (width * n + width) (length room)) (sets room (width * n) (entryOctets e)) room
 
 -- the count after the entries
 unfoldable pub counted : List Entry → ℕ → ℕ

@@ -2,6 +2,7 @@
 // over no room at all, and write.
 use der::Head;
 use octets::Place;
+use profiles::Profile;
 ghost use mathlib.Core.Path.{_≡_};
 ghost use mathlib.Core.List.{[], _∷_};
 ghost use Prim.Native.Nat.{_+_, _*_, _≤_};
@@ -11,6 +12,7 @@ ghost use lib.Seq.{sets};
 ghost use Rattle.octets.specs.Numbers.{pairOf};
 ghost use Rattle.report.specs.Entries.{width, entryIf, noted};
 ghost use Rattle.report.specs.Putting.{Put, tick};
+ghost use Rattle.report.specs.Rows.{_⦂_, brokenAt, Puts};
 
 // A finding: the rule, and the place of the element that breaks it.
 pub struct Entry {
@@ -89,4 +91,12 @@ pub fn note(room: &mut [u8], n: usize, rule: usize, bad: bool, h: Head) -> usize
             place: place,
         },
     )
+}
+
+// What a rule does that judges one element: an entry at it where it is bad, in a profile that judges the rule.
+pub fn judge(room: &mut [u8], n: usize, p: Profile, rule: usize, bad: bool, h: Head) -> usize
+    ensures { λ r. ⌜ Puts p (rule ⦂ brokenAt bad h ∷ []) n (now (room .entry)) r (now (room .exit)) ⌝ }
+{
+    let judged = profiles::holds(p, rule);
+    note(room, n, rule, judged & bad, h)
 }

@@ -1,3 +1,4 @@
 -- Laws of the definitions, by file.
 pub mod Slots
-pub mod Order
+pub mod Rows
+pub mod Repeats

@@ -1,16 +1,31 @@
-// Rules 361 to 363: extensions by their identifiers, whatever their values.
-use der::Head;
-use items::Kind;
+// Rules 361 to 363: extensions by their identifiers, whatever their values. They share what was found out about repeats.
+use facts::Facts;
+use forms::Kind;
+use forms::Repeats;
 use profiles::Profile;
-ghost use Rattle.report.specs.Putting.{Put};
-ghost use Rattle.rules_extensions.specs.Identifiers.{identifierFindings};
+ghost use Rattle.facts.specs.Case.{caseOf};
+ghost use Rattle.report.specs.Rows.{Puts};
+ghost use Rattle.rules_extensions.specs.Identifiers.{identifierRows};
 
-pub fn identifiers(room: &mut [u8], n: usize, p: Profile, s: &[u8], list: Head) -> usize
-    ensures { λ r. ⌜ Put (identifierFindings p (now (s .entry)) list) n (now (room .entry)) r (now (room .exit)) ⌝ }
+pub fn identifiers(
+    room: &mut [u8],
+    n: usize,
+    p: Profile,
+    s: &[u8],
+    f: Facts,
+    issuer: &[u8],
+) -> usize
+    ensures { λ r. ⌜ Puts p (identifierRows p (caseOf (now (s .entry)) f (now (issuer .entry)))) n (now (room .entry)) r (now (room .exit)) ⌝ }
 {
+    let fields = f.fields;
+    let list = fields.extensions;
     let from = list.body;
     let to = list.end;
-    let a = items::each(room, n, 361, Kind::Repeated, p, from, s, from, to);
-    let b = items::each(room, a, 362, Kind::Unwanted, p, from, s, from, to);
-    items::each(room, b, 363, Kind::OutOfPlace, p, from, s, from, to)
+    let repeats = Repeats {
+        from: from,
+        some: f.repeated,
+    };
+    let a = forms::judge_each(room, n, p, 361, Kind::Repeated(repeats), s, from, to);
+    let b = forms::judge_each(room, a, p, 362, Kind::Unwanted(repeats), s, from, to);
+    forms::judge_each(room, b, p, 363, Kind::OutOfPlace(repeats), s, from, to)
 }

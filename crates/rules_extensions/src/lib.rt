@@ -3,38 +3,26 @@
 mod identifiers;
 mod slots;
 
-use certificate::Certificate;
+use facts::Facts;
 use profiles::Profile;
 use slots::Question;
-ghost use Rattle.report.specs.Putting.{Put};
-ghost use Rattle.rules_extensions.specs.Rules.{extensionFindings};
+ghost use Rattle.facts.specs.Case.{caseOf};
+ghost use Rattle.report.specs.Rows.{Puts};
+ghost use Rattle.rules_extensions.specs.Rules.{extensionRows};
 
-// All of them, in order. `starts` and `values` have a number for each slot: where its first extension and that one's
-// good value start, 0 for none.
+// All of them, in order.
 pub fn extension_rules(
     room: &mut [u8],
     n: usize,
     p: Profile,
     s: &[u8],
-    c: Certificate,
-    starts: &[usize],
-    values: &[usize],
+    f: Facts,
+    issuer: &[u8],
 ) -> usize
-    ensures { λ r. ⌜ Put
-        (extensionFindings p (now (s .entry)) c (now (starts .entry)) (now (values .entry)))
-        n (now (room .entry)) r (now (room .exit)) ⌝ }
+    ensures { λ r. ⌜ Puts p (extensionRows p (caseOf (now (s .entry)) f (now (issuer .entry)))) n (now (room .entry)) r (now (room .exit)) ⌝ }
 {
-    let missing = slots::over_slots(room, n, Question::Missing, p, s, c, starts, values);
-    let criticality = slots::over_slots(
-        room,
-        missing,
-        Question::Criticality,
-        p,
-        s,
-        c,
-        starts,
-        values,
-    );
-    let bad = slots::over_slots(room, criticality, Question::Value, p, s, c, starts, values);
-    identifiers::identifiers(room, bad, p, s, c.extensions)
+    let missing = slots::over_slots(room, n, Question::Missing, p, s, f, issuer);
+    let criticality = slots::over_slots(room, missing, Question::Criticality, p, s, f, issuer);
+    let bad = slots::over_slots(room, criticality, Question::Value, p, s, f, issuer);
+    identifiers::identifiers(room, bad, p, s, f, issuer)
 }

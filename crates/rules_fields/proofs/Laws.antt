@@ -1,2 +1,2 @@
 -- Laws of the definitions, by file.
-pub mod Order
+pub mod Rows

@@ -1,6 +1,6 @@
 -- Rules 101 to 104 (document 01, "Rules on fields").
 use mathlib.Core.Bool.{Bool, cond, not, _&&_}
-use mathlib.Core.List.{List, [], _∷_, _++_}
+use mathlib.Core.List.{List, [], _∷_}
 use Prim.Native.Nat.{ℕ, _-_}
 use lib.Dec.{ltb, eqb}
 use Rattle.der.specs.Contents.{contentsOf}
@@ -8,11 +8,8 @@ use Rattle.der.specs.Comparing.{firstIs}
 use Rattle.der.specs.Integers.{integerOf}
 use Rattle.der.specs.declared.header.Head.{Head}
 use Rattle.numbers.specs.Numbers.{isPositive}
-use Rattle.profiles.specs.Fields.{isServer}
-use Rattle.profiles.specs.declared.fields.Profile.{Profile}
-use Rattle.certificate.specs.declared.fields.Certificate.{Certificate}
-use Rattle.report.specs.Entries.{noted}
-use Rattle.report.specs.declared.sink.Entry.{Entry}
+use Rattle.facts.specs.Case.{Case}
+use Rattle.report.specs.Rows.{Row, _⦂_, brokenAt}
 
 -- the version stands in [0], and 2 says v3 (RFC 5280, 4.1.2.1)
 abbrev pub isV3 : List ℕ → Head → Bool
@@ -22,26 +19,26 @@ abbrev pub versionPlace : Head → Head → Head
 versionPlace version tbs = cond (eqb (version .tag) 0xA0) version tbs
 
 -- 101 "version v3 (at its [0], or the TBS structure)"
-abbrev pub rule101 : List ℕ → Certificate → List Entry
-rule101 s c = noted 101 (not (isV3 s (c .version))) (versionPlace (c .version) (c .tbs))
+abbrev pub rule101 : Case → List Head
+rule101 f = brokenAt (not (isV3 (f .octets) (f .fields .version))) (versionPlace (f .fields .version) (f .fields .tbs))
 
 abbrev pub isAboveZero : List ℕ → Head → Bool
 isAboveZero s serial = isPositive (integerOf (contentsOf s serial))
 
 -- 102 "serial above zero"
-abbrev pub rule102 : List ℕ → Certificate → List Entry
-rule102 s c = noted 102 (not (isAboveZero s (c .serial))) (c .serial)
+abbrev pub rule102 : Case → List Head
+rule102 f = brokenAt (not (isAboveZero (f .octets) (f .fields .serial))) (f .fields .serial)
 
 abbrev pub serialLength : Head → ℕ
 serialLength serial = serial .end - serial .body
 
 -- 103 "serial at most 20 content octets"
-abbrev pub rule103 : Certificate → List Entry
-rule103 c = noted 103 (ltb 20 (serialLength (c .serial))) (c .serial)
+abbrev pub rule103 : Case → List Head
+rule103 f = brokenAt (ltb 20 (serialLength (f .fields .serial))) (f .fields .serial)
 
--- 104 "O: at least 8"
-abbrev pub rule104 : Profile → Certificate → List Entry
-rule104 p c = noted 104 (not (isServer p) && ltb (serialLength (c .serial)) 8) (c .serial)
+-- 104 "at least 8"
+abbrev pub rule104 : Case → List Head
+rule104 f = brokenAt (ltb (serialLength (f .fields .serial)) 8) (f .fields .serial)
 
-unfoldable pub versionAndSerial : Profile → List ℕ → Certificate → List Entry
-versionAndSerial p s c = rule101 s c ++ (rule102 s c ++ (rule103 c ++ rule104 p c))
+unfoldable pub versionRows : Case → List Row
+versionRows f = 101 ⦂ rule101 f ∷ 102 ⦂ rule102 f ∷ 103 ⦂ rule103 f ∷ 104 ⦂ rule104 f ∷ []

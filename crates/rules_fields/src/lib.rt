@@ -3,28 +3,24 @@ mod algorithms;
 mod period;
 mod version;
 
-use certificate::Certificate;
-use der::Head;
+use facts::Facts;
 use profiles::Profile;
-ghost use Rattle.der.specs.Order.{octetsOf};
-ghost use Rattle.report.specs.Putting.{Put};
-ghost use Rattle.rules_fields.specs.Rules.{fieldFindings};
+ghost use Rattle.facts.specs.Case.{caseOf};
+ghost use Rattle.report.specs.Rows.{Puts};
+ghost use Rattle.rules_fields.specs.Rules.{fieldRows};
 
-// All of them, in order. Of the issuer its subject name counts, which is the element `name` of `issuer`.
+// All of them, in order.
 pub fn field_rules(
     room: &mut [u8],
     n: usize,
     p: Profile,
     s: &[u8],
-    c: Certificate,
+    f: Facts,
     issuer: &[u8],
-    name: Head,
 ) -> usize
-    ensures { λ r. ⌜ Put
-        (fieldFindings p (now (s .entry)) c (octetsOf (now (issuer .entry)) name))
-        n (now (room .entry)) r (now (room .exit)) ⌝ }
+    ensures { λ r. ⌜ Puts p (fieldRows p (caseOf (now (s .entry)) f (now (issuer .entry)))) n (now (room .entry)) r (now (room .exit)) ⌝ }
 {
-    let first = version::version_and_serial(room, n, p, s, c);
-    let second = algorithms::algorithms_and_name(room, first, s, c, issuer, name);
-    period::validity(room, second, p, c)
+    let first = version::version_and_serial(room, n, p, s, f, issuer);
+    let second = algorithms::algorithms_and_name(room, first, p, s, f, issuer);
+    period::validity(room, second, p, s, f, issuer)
 }

@@ -1,12 +1,14 @@
 // Rules 109 to 111: the validity.
-use certificate::Certificate;
+use facts::Facts;
 use profiles::Profile;
-ghost use Rattle.report.specs.Putting.{Put};
-ghost use Rattle.rules_fields.specs.Period.{validityFindings};
+ghost use Rattle.facts.specs.Case.{caseOf};
+ghost use Rattle.report.specs.Rows.{Puts};
+ghost use Rattle.rules_fields.specs.Period.{validityRows};
 
-pub fn validity(room: &mut [u8], n: usize, p: Profile, c: Certificate) -> usize
-    ensures { λ r. ⌜ Put (validityFindings p c) n (now (room .entry)) r (now (room .exit)) ⌝ }
+pub fn validity(room: &mut [u8], n: usize, p: Profile, s: &[u8], f: Facts, issuer: &[u8]) -> usize
+    ensures { λ r. ⌜ Puts p (validityRows p (caseOf (now (s .entry)) f (now (issuer .entry)))) n (now (room .entry)) r (now (room .exit)) ⌝ }
 {
+    let c = f.fields;
     let times = c.validity;
     let start = times.not_before;
     let end = times.not_after;
@@ -14,8 +16,8 @@ pub fn validity(room: &mut [u8], n: usize, p: Profile, c: Certificate) -> usize
     let early_end = times::early_general(end);
     let reversed = times::reversed(times);
     let too_long = !times::within_days(times, profiles::max_days(p));
-    let a = report::note(room, n, 109, early_start, c.not_before);
-    let b = report::note(room, a, 109, early_end, c.not_after);
-    let d = report::note(room, b, 110, reversed, c.period);
-    report::note(room, d, 111, too_long, c.period)
+    let a = report::judge(room, n, p, 109, early_start, c.not_before);
+    let b = report::judge(room, a, p, 109, early_end, c.not_after);
+    let d = report::judge(room, b, p, 110, reversed, c.period);
+    report::judge(room, d, p, 111, too_long, c.period)
 }

@@ -1,11 +1,11 @@
 // Rules 101 to 104: the version and the serial number.
-use certificate::Certificate;
 use der::Head;
+use facts::Facts;
 use profiles::Profile;
 ghost use mathlib.Core.Path.{_≡_};
-ghost use mathlib.Core.Bool.{not};
-ghost use Rattle.report.specs.Putting.{Put};
-ghost use Rattle.rules_fields.specs.Version.{isV3, versionPlace, serialLength, isAboveZero, versionAndSerial};
+ghost use Rattle.facts.specs.Case.{caseOf};
+ghost use Rattle.report.specs.Rows.{Puts};
+ghost use Rattle.rules_fields.specs.Version.{isV3, versionPlace, serialLength, isAboveZero, versionRows};
 
 // Whether the first member of the TBS structure is a version that says 2, which is v3.
 fn is_v3(s: &[u8], version: Head) -> bool
@@ -39,17 +39,24 @@ fn is_above_zero(s: &[u8], serial: Head) -> bool
     numbers::positive(s, serial.body, serial.end)
 }
 
-pub fn version_and_serial(room: &mut [u8], n: usize, p: Profile, s: &[u8], c: Certificate) -> usize
-    ensures { λ r. ⌜ Put (versionAndSerial p (now (s .entry)) c) n (now (room .entry)) r (now (room .exit)) ⌝ }
+pub fn version_and_serial(
+    room: &mut [u8],
+    n: usize,
+    p: Profile,
+    s: &[u8],
+    f: Facts,
+    issuer: &[u8],
+) -> usize
+    ensures { λ r. ⌜ Puts p (versionRows (caseOf (now (s .entry)) f (now (issuer .entry)))) n (now (room .entry)) r (now (room .exit)) ⌝ }
 {
+    let c = f.fields;
     let serial = c.serial;
     let length = serial_length(serial);
     let place = version_place(c.version, c.tbs);
     let old = !is_v3(s, c.version);
     let negative = !is_above_zero(s, serial);
-    let short = !profiles::is_server(p) & (length < 8);
-    let a = report::note(room, n, 101, old, place);
-    let b = report::note(room, a, 102, negative, serial);
-    let d = report::note(room, b, 103, 20 < length, serial);
-    report::note(room, d, 104, short, serial)
+    let a = report::judge(room, n, p, 101, old, place);
+    let b = report::judge(room, a, p, 102, negative, serial);
+    let d = report::judge(room, b, p, 103, 20 < length, serial);
+    report::judge(room, d, p, 104, length < 8, serial)
 }

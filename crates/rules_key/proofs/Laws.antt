@@ -1,4 +1,4 @@
 -- Laws of the definitions, by file.
 pub mod Bits
 pub mod Noted
-pub mod Order
+pub mod Rows

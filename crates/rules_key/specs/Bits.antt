@@ -17,14 +17,14 @@ abbrev pub bitsFrom : Head → ℕ
 bitsFrom h = min (h .body + 1) (h .end)
 
 -- the element that they start with, and its first two members
-abbrev pub wholeOf : List ℕ → Head → Head
-wholeOf s h = headOf s (bitsFrom h) (h .end)
+abbrev pub sequenceIn : List ℕ → Head → Head
+sequenceIn s h = headOf s (bitsFrom h) (h .end)
 
 abbrev pub modulusOf : List ℕ → Head → Head
-modulusOf s h = headOf s (wholeOf s h .body) (wholeOf s h .end)
+modulusOf s h = headOf s (sequenceIn s h .body) (sequenceIn s h .end)
 
 abbrev pub exponentOf : List ℕ → Head → Head
-exponentOf s h = headOf s (modulusOf s h .end) (wholeOf s h .end)
+exponentOf s h = headOf s (modulusOf s h .end) (sequenceIn s h .end)
 
 -- an INTEGER (tag 2) above zero
 abbrev pub isPositiveInteger : List ℕ → Head → Bool
@@ -41,7 +41,7 @@ unfoldable pub rsaBits : List ℕ → Head → Bool
 rsaBits s h =
     eqb (octetAt s (h .body)) 0
     && (isSound (stretchSoundness s (bitsFrom h) (h .end))
-    && (eqb (wholeOf s h .tag) 48 && twoPositive s (childrenOf s (wholeOf s h .body) (wholeOf s h .end))))
+    && (eqb (sequenceIn s h .tag) 48 && twoPositive s (childrenOf s (sequenceIn s h .body) (sequenceIn s h .end))))
 
 unfoldable pub rsaKeyOf : List ℕ → Head → RsaKey
 rsaKeyOf s h = record { kept = rsaBits s h; modulus = modulusOf s h; exponent = exponentOf s h }

@@ -1,12 +1,10 @@
 -- Rules 201 to 207 together.
 use mathlib.Core.List.{List, _++_}
-use Prim.Native.Nat.{ℕ}
-use Rattle.rules_key.specs.Algorithm.{algorithmFindings}
-use Rattle.rules_key.specs.Rsa.{rsaFindings}
+use Rattle.rules_key.specs.Algorithm.{algorithmRows}
+use Rattle.rules_key.specs.Rsa.{rsaRows}
 use Rattle.profiles.specs.declared.fields.Profile.{Profile}
-use Rattle.certificate.specs.declared.key.Key.{Key}
-use Rattle.report.specs.declared.sink.Entry.{Entry}
+use Rattle.facts.specs.Case.{Case}
+use Rattle.report.specs.Rows.{Row}
 
--- of the certificate s with the key k
-unfoldable pub keyFindings : Profile → List ℕ → Key → List Entry
-keyFindings p s k = algorithmFindings p s k ++ rsaFindings p s k
+unfoldable pub keyRows : Profile → Case → List Row
+keyRows p f = algorithmRows p f ++ rsaRows f

@@ -4,15 +4,16 @@ mod bits;
 mod parameters;
 mod rsa;
 
-use certificate::Key;
+use facts::Facts;
 use profiles::Profile;
-ghost use Rattle.report.specs.Putting.{Put};
-ghost use Rattle.rules_key.specs.Rules.{keyFindings};
+ghost use Rattle.facts.specs.Case.{caseOf};
+ghost use Rattle.report.specs.Rows.{Puts};
+ghost use Rattle.rules_key.specs.Rules.{keyRows};
 
 // All of them, in order.
-pub fn key_rules(room: &mut [u8], n: usize, p: Profile, s: &[u8], k: Key) -> usize
-    ensures { λ r. ⌜ Put (keyFindings p (now (s .entry)) k) n (now (room .entry)) r (now (room .exit)) ⌝ }
+pub fn key_rules(room: &mut [u8], n: usize, p: Profile, s: &[u8], f: Facts, issuer: &[u8]) -> usize
+    ensures { λ r. ⌜ Puts p (keyRows p (caseOf (now (s .entry)) f (now (issuer .entry)))) n (now (room .entry)) r (now (room .exit)) ⌝ }
 {
-    let first = algorithm::algorithm_rules(room, n, p, s, k);
-    rsa::rsa_rules(room, first, p, s, k)
+    let first = algorithm::algorithm_rules(room, n, p, s, f, issuer);
+    rsa::rsa_rules(room, first, p, s, f, issuer)
 }

@@ -1,8 +1,8 @@
 // Rules 204 to 207: the key in an RSA key's bits.
-use crate::algorithm::is_rsa;
 use crate::bits::rsa_key;
-use certificate::Key;
 use der::Head;
+use facts::Facts;
+use facts::is_rsa;
 use profiles::Profile;
 ghost use mathlib.Core.Path.{_≡_};
 ghost use mathlib.Core.Bool.{not, _&&_};
@@ -10,8 +10,9 @@ ghost use Rattle.der.specs.Contents.{contentsOf};
 ghost use Rattle.octets.specs.Numbers.{numberOf};
 ghost use Rattle.numbers.specs.Numbers.{modulusOk, exponentOk};
 ghost use Rattle.primes.specs.Primes.{freeOf, primesBelow};
-ghost use Rattle.report.specs.Putting.{Put};
-ghost use Rattle.rules_key.specs.Rsa.{rsaFindings};
+ghost use Rattle.facts.specs.Case.{caseOf};
+ghost use Rattle.report.specs.Rows.{Puts};
+ghost use Rattle.rules_key.specs.Rsa.{rsaRows};
 
 fn is_bad_modulus(s: &[u8], h: Head) -> bool
     ensures { λ r. ⌜ r ≡ not (modulusOk (numberOf (contentsOf (now (s .entry)) h))) ⌝ }
@@ -35,18 +36,19 @@ fn is_divided(judged: bool, s: &[u8], h: Head) -> bool
     false
 }
 
-pub fn rsa_rules(room: &mut [u8], n: usize, p: Profile, s: &[u8], k: Key) -> usize
-    ensures { λ r. ⌜ Put (rsaFindings p (now (s .entry)) k) n (now (room .entry)) r (now (room .exit)) ⌝ }
+pub fn rsa_rules(room: &mut [u8], n: usize, p: Profile, s: &[u8], f: Facts, issuer: &[u8]) -> usize
+    ensures { λ r. ⌜ Puts p (rsaRows (caseOf (now (s .entry)) f (now (issuer .entry)))) n (now (room .entry)) r (now (room .exit)) ⌝ }
 {
+    let k = f.key;
     let key = rsa_key(s, k.bits);
     let kind = k.kind;
     let rsa = is_rsa(kind);
     let judged = rsa & key.kept;
     let modulus = is_bad_modulus(s, key.modulus);
     let exponent = is_bad_exponent(s, key.exponent);
-    let divided = is_divided(!profiles::is_server(p) & judged, s, key.modulus);
-    let a = report::note(room, n, 204, rsa & !key.kept, k.bits);
-    let b = report::note(room, a, 205, judged & modulus, key.modulus);
-    let d = report::note(room, b, 206, judged & exponent, key.exponent);
-    report::note(room, d, 207, divided, key.modulus)
+    let divided = is_divided(profiles::holds(p, 207) & judged, s, key.modulus);
+    let a = report::judge(room, n, p, 204, rsa & !key.kept, k.bits);
+    let b = report::judge(room, a, p, 205, judged & modulus, key.modulus);
+    let d = report::judge(room, b, p, 206, judged & exponent, key.exponent);
+    report::judge(room, d, p, 207, divided, key.modulus)
 }

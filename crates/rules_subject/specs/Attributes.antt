@@ -1,63 +1,57 @@
 -- Rules 112 to 119 (document 01, "Rules on fields").
-use mathlib.Core.Bool.{Bool, not}
-use mathlib.Core.List.{List, _++_}
+use mathlib.Core.List.{List, [], _∷_}
 use Prim.Native.Nat.{ℕ}
 use Rattle.der.specs.declared.header.Head.{Head}
-use Rattle.profiles.specs.Fields.{isDomain, isOrganization}
+use Rattle.profiles.specs.Fields.{commonName, country, organization, stateOrProvince}
 use Rattle.profiles.specs.declared.fields.Profile.{Profile}
-use Rattle.attributes.specs.Texts.{isForeign, isOtherCountry, isOtherOrganization, isOtherState}
-use Rattle.items.specs.Kinds.{hasArc}
-use Rattle.items.specs.Lists.{grandchildren}
-use Rattle.report.specs.Forms.{each, one, onlyIf}
-use Rattle.report.specs.declared.sink.Entry.{Entry}
+use Rattle.subjects.specs.Texts.{isOtherCountry, isOtherOrganization, isOtherState}
+use Rattle.facts.specs.Case.{Case}
+use Rattle.forms.specs.Kinds.{hasArc, isForeign}
+use Rattle.forms.specs.Lists.{attributesIn}
+use Rattle.report.specs.Forms.{filter, onesOf}
+use Rattle.report.specs.Rows.{Row, _⦂_}
 
--- the attributes of a name "in the order of the encoding, across and inside sets"
-abbrev pub attributesIn : List ℕ → Head → List Head
-attributesIn s subject = grandchildren s (subject .body) (subject .end)
+abbrev pub attributesOf : Case → List Head
+attributesOf f = attributesIn (f .octets) (f .fields .subject)
 
--- X of "one X", by its arc below 2.5.4
-abbrev pub isA : ℕ → List ℕ → Head → Bool
-isA arc s h = hasArc s h arc
+-- "one X", X by its arc below 2.5.4: "an entry at the subject name if none, and at each further X"
+abbrev pub oneOf : ℕ → Case → List Head
+oneOf arc f = onesOf (f .fields .subject) (filter (hasArc (f .octets) arc) (attributesOf f))
 
 -- 112 "each subject attribute besides CN, C (1); CN, C, O, ST (2); CN, C, O, OU (O)"
-abbrev pub rule112 : Profile → List ℕ → Head → List Entry
-rule112 p s subject = each 112 (isForeign p s) (attributesIn s subject)
+abbrev pub rule112 : Profile → Case → List Head
+rule112 p f = filter (isForeign p (f .octets)) (attributesOf f)
 
 -- 113 "one CN"
-abbrev pub rule113 : List ℕ → Head → List Entry
-rule113 s subject = one 113 (isA 3 s) subject (attributesIn s subject)
+abbrev pub rule113 : Case → List Head
+rule113 f = oneOf commonName f
 
 -- 114 "one C"
-abbrev pub rule114 : List ℕ → Head → List Entry
-rule114 s subject = one 114 (isA 6 s) subject (attributesIn s subject)
+abbrev pub rule114 : Case → List Head
+rule114 f = oneOf country f
 
 -- 115 "each C is PrintableString "US""
-abbrev pub rule115 : List ℕ → Head → List Entry
-rule115 s subject = each 115 (isOtherCountry s) (attributesIn s subject)
+abbrev pub rule115 : Case → List Head
+rule115 f = filter (isOtherCountry (f .octets)) (attributesOf f)
 
-unfoldable pub everySubject : Profile → List ℕ → Head → List Entry
-everySubject p s subject = rule112 p s subject ++ (rule113 s subject ++ (rule114 s subject ++ rule115 s subject))
+-- 116 "one O"
+abbrev pub rule116 : Case → List Head
+rule116 f = oneOf organization f
 
--- 116 "one O (2, O)"
-abbrev pub rule116 : List ℕ → Head → List Entry
-rule116 s subject = one 116 (isA 10 s) subject (attributesIn s subject)
+-- 117 "each O is "U.S. Government""
+abbrev pub rule117 : Case → List Head
+rule117 f = filter (isOtherOrganization (f .octets)) (attributesOf f)
 
--- 117 "each O is "U.S. Government" (2, O)"
-abbrev pub rule117 : List ℕ → Head → List Entry
-rule117 s subject = each 117 (isOtherOrganization s) (attributesIn s subject)
+-- 118 "one ST"
+abbrev pub rule118 : Case → List Head
+rule118 f = oneOf stateOrProvince f
 
--- "(2, O)": not profile 1
-unfoldable pub organizationFindings : Profile → List ℕ → Head → List Entry
-organizationFindings p s subject = onlyIf (not (isDomain p)) (rule116 s subject ++ rule117 s subject)
+-- 119 "each ST is "District of Columbia""
+abbrev pub rule119 : Case → List Head
+rule119 f = filter (isOtherState (f .octets)) (attributesOf f)
 
--- 118 "one ST (2)"
-abbrev pub rule118 : List ℕ → Head → List Entry
-rule118 s subject = one 118 (isA 8 s) subject (attributesIn s subject)
+unfoldable pub countryRows : Profile → Case → List Row
+countryRows p f = 112 ⦂ rule112 p f ∷ 113 ⦂ rule113 f ∷ 114 ⦂ rule114 f ∷ 115 ⦂ rule115 f ∷ []
 
--- 119 "each ST is "District of Columbia" (2)"
-abbrev pub rule119 : List ℕ → Head → List Entry
-rule119 s subject = each 119 (isOtherState s) (attributesIn s subject)
-
--- "(2)"
-unfoldable pub stateFindings : Profile → List ℕ → Head → List Entry
-stateFindings p s subject = onlyIf (isOrganization p) (rule118 s subject ++ rule119 s subject)
+unfoldable pub organizationRows : Case → List Row
+organizationRows f = 116 ⦂ rule116 f ∷ 117 ⦂ rule117 f ∷ 118 ⦂ rule118 f ∷ 119 ⦂ rule119 f ∷ []

@@ -1,37 +1,46 @@
 // Rules 120 and 121: the first CN among the subject's alternative names, and sets of one attribute.
 use der::Head;
-use items::Kind;
+use facts::Facts;
+use forms::Kind;
+use forms::Nest;
 use profiles::Profile;
 ghost use mathlib.Core.Path.{_≡_};
-ghost use Rattle.report.specs.Putting.{Put};
-ghost use Rattle.rules_subject.specs.CommonName.{isUnnamed, nameAndSets};
+ghost use mathlib.Core.Bool.{_&&_};
+ghost use Rattle.facts.specs.Case.{caseOf};
+ghost use Rattle.report.specs.Rows.{Puts};
+ghost use Rattle.rules_subject.specs.CommonName.{isUnnamed, nameRows};
 
-// Whether the CN, if there is one, is none of the dNSNames.
-fn is_unnamed(p: Profile, s: &[u8], cn: Head, alternative: Head) -> bool
-    ensures { λ r. ⌜ r ≡ isUnnamed p (now (s .entry)) cn alternative ⌝ }
+// Whether the CN, if there is one, is none of the dNSNames, where that is judged.
+fn is_unnamed(judged: bool, s: &[u8], cn: Head, alternative: Head) -> bool
+    ensures { λ r. ⌜ r ≡ (judged && isUnnamed (now (s .entry)) cn alternative) ⌝ }
 {
-    if profiles::is_server(p) & (!(cn.end <= cn.at) & alternative.sound) {
-        let value = attributes::value_of(s, cn);
+    if judged & !der::is_none(cn) {
+        let value = subjects::attribute_value(s, cn);
         let length = octets::minus(value.end, value.body);
-        return !names::some_same(s, value.body, length, alternative.body, alternative.end);
+        return !hosts::some_same(s, value.body, length, alternative.body, alternative.end);
     }
     false
 }
 
+// Slot 7 is the subject alternative name.
 pub fn name_and_sets(
     room: &mut [u8],
     n: usize,
     p: Profile,
     s: &[u8],
-    subject: Head,
-    alternative: Head,
+    f: Facts,
+    issuer: &[u8],
 ) -> usize
-    ensures { λ r. ⌜ Put (nameAndSets p (now (s .entry)) subject alternative) n (now (room .entry)) r (now (room .exit)) ⌝ }
+    ensures { λ r. ⌜ Puts p (nameRows (caseOf (now (s .entry)) f (now (issuer .entry)))) n (now (room .entry)) r (now (room .exit)) ⌝ }
 {
-    let from = subject.body;
-    let to = subject.end;
-    let cn = items::first_within(Kind::Attribute(3), p, 0, s, from, to);
-    let unnamed = is_unnamed(p, s, cn, alternative);
-    let a = report::note(room, n, 120, unnamed, cn);
-    items::each(room, a, 121, Kind::Crowded, p, 0, s, from, to)
+    let fields = f.fields;
+    let alternative = f.slots[7];
+    let name = fields.subject;
+    let from = name.body;
+    let to = name.end;
+    let cn = forms::first_within(Nest::Set, Kind::Attribute(3), p, s, from, to);
+    let judged = profiles::holds(p, 120) & alternative.good;
+    let unnamed = is_unnamed(judged, s, cn, alternative.element);
+    let a = report::judge(room, n, p, 120, unnamed, cn);
+    forms::judge_each(room, a, p, 121, Kind::Crowded, s, from, to)
 }

@@ -1,26 +1,25 @@
 // Rules 112 to 121: the subject's name (document 01, "Rules on fields").
+mod attributes;
 mod common_name;
-mod subject;
 
-use der::Head;
+use facts::Facts;
 use profiles::Profile;
-ghost use Rattle.report.specs.Putting.{Put};
-ghost use Rattle.rules_subject.specs.Rules.{subjectFindings};
+ghost use Rattle.facts.specs.Case.{caseOf};
+ghost use Rattle.report.specs.Rows.{Puts};
+ghost use Rattle.rules_subject.specs.Rules.{subjectRows};
 
-// All of them, in order. `alternative` is the value of the subject alternative name, not sound if there is none or a
-// bad one.
+// All of them, in order.
 pub fn subject_rules(
     room: &mut [u8],
     n: usize,
     p: Profile,
     s: &[u8],
-    subject: Head,
-    alternative: Head,
+    f: Facts,
+    issuer: &[u8],
 ) -> usize
-    ensures { λ r. ⌜ Put (subjectFindings p (now (s .entry)) subject alternative) n (now (room .entry)) r (now (room .exit)) ⌝ }
+    ensures { λ r. ⌜ Puts p (subjectRows p (caseOf (now (s .entry)) f (now (issuer .entry)))) n (now (room .entry)) r (now (room .exit)) ⌝ }
 {
-    let first = subject::every_subject(room, n, p, s, subject);
-    let second = subject::organization(room, first, p, s, subject);
-    let third = subject::state(room, second, p, s, subject);
-    common_name::name_and_sets(room, third, p, s, subject, alternative)
+    let first = attributes::name_and_country(room, n, p, s, f, issuer);
+    let second = attributes::organization_and_state(room, first, p, s, f, issuer);
+    common_name::name_and_sets(room, second, p, s, f, issuer)
 }

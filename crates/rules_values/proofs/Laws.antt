@@ -1,3 +1,4 @@
 -- Laws of the definitions, by file.
+pub mod Identifiers
 pub mod Qualifiers
-pub mod Order
+pub mod Rows

@@ -1,39 +1,35 @@
--- Rules 415 to 417 (document 01, "Rules on extensions").
-use mathlib.Core.Bool.{Bool, not, _&&_}
-use mathlib.Core.List.{List, _++_}
-use Prim.Native.Nat.{ℕ}
+-- Rules 415 to 417 (document 01, "Rules on extensions"). Slot 8 is authority information access.
+use mathlib.Core.Bool.{not}
+use mathlib.Core.List.{List, [], _∷_}
 use Rattle.der.specs.declared.header.Head.{Head}
-use Rattle.profiles.specs.Fields.{isServer}
-use Rattle.profiles.specs.declared.fields.Profile.{Profile}
-use Rattle.certificate.specs.Slots.{valueAt}
-use Rattle.certificate.specs.declared.slots.Value.{Value}
-use Rattle.der.specs.Members.{membersIn}
-use Rattle.names.specs.Access.{uriBy}
-use Rattle.names.specs.declared.access.Method.{Method}
-use Rattle.names.specs.declared.access.Method.the-variants.{Ocsp, CaIssuers}
-use Rattle.items.specs.Kinds.{isNotHttp}
-use Rattle.report.specs.Entries.{noted}
-use Rattle.report.specs.Forms.{each}
-use Rattle.report.specs.declared.sink.Entry.{Entry}
+use Rattle.facts.specs.Case.{Case, slot}
+use Rattle.forms.specs.Values.{whereGood}
 use Rattle.der.specs.Elements.{anyOf}
+use Rattle.der.specs.Members.{membersIn}
+use Rattle.locations.specs.Access.{uriBy, notHttpBy}
+use Rattle.locations.specs.declared.access.Method.{Method}
+use Rattle.locations.specs.declared.access.Method.the-variants.{Ocsp, CaIssuers}
+use Rattle.report.specs.Forms.{filter}
+use Rattle.report.specs.Rows.{Row, _⦂_, brokenAt}
 
--- the value is judged, and has no entry with this method and a URI
-abbrev pub lacksUri : List ℕ → Head → Method → Bool
-lacksUri s v method = v .sound && not (anyOf (uriBy s method) (membersIn s v))
+abbrev pub entriesIn : Case → List Head
+entriesIn f = membersIn (f .octets) (slot f 8 .element)
 
--- 415 "S: an OCSP entry with a URI"
-abbrev pub rule415 : Profile → List ℕ → Value → List Entry
-rule415 p s v = noted 415 (isServer p && lacksUri s (v .element) Ocsp) (v .holder)
+-- an entry with this method and a URI
+abbrev pub uriWanted : Method → Case → List Head
+uriWanted method f = whereGood (slot f 8) (brokenAt (not (anyOf (uriBy (f .octets) method) (entriesIn f))) (slot f 8 .holder))
+
+-- 415 "an OCSP entry with a URI"
+abbrev pub rule415 : Case → List Head
+rule415 f = uriWanted Ocsp f
 
 -- 416 "a caIssuers entry with a URI"
-abbrev pub rule416 : List ℕ → Value → List Entry
-rule416 s v = noted 416 (lacksUri s (v .element) CaIssuers) (v .holder)
+abbrev pub rule416 : Case → List Head
+rule416 f = uriWanted CaIssuers f
 
--- 417 "S: each caIssuers entry not an HTTP URI"
-abbrev pub rule417 : Profile → List ℕ → Value → List Entry
-rule417 p s v = each 417 (isNotHttp p s) (membersIn s (v .element))
+-- 417 "each caIssuers entry not an HTTP URI"
+abbrev pub rule417 : Case → List Head
+rule417 f = whereGood (slot f 8) (filter (notHttpBy (f .octets) CaIssuers) (entriesIn f))
 
--- slot 8 AIA
-unfoldable pub accessFindings : Profile → List ℕ → List ℕ → List Entry
-accessFindings p s values =
-    rule415 p s (valueAt s values 8) ++ (rule416 s (valueAt s values 8) ++ rule417 p s (valueAt s values 8))
+unfoldable pub accessRows : Case → List Row
+accessRows f = 415 ⦂ rule415 f ∷ 416 ⦂ rule416 f ∷ 417 ⦂ rule417 f ∷ []

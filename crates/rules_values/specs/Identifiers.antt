@@ -1,29 +1,48 @@
--- Rules 401 to 403 (document 01, "Rules on extensions"). "Place: the OCTET STRING", which is the value's holder. A value that is missing or fails
--- 340+s has an element that is not sound, and is not judged.
-use mathlib.Core.Bool.{_&&_}
-use mathlib.Core.List.{List, _++_}
-use Prim.Native.Nat.{ℕ}
-use Rattle.profiles.specs.Fields.{isServer}
-use Rattle.profiles.specs.declared.fields.Profile.{Profile}
-use Rattle.certificate.specs.Slots.{valueAt}
-use Rattle.certificate.specs.declared.slots.Value.{Value}
-use Rattle.values.specs.Identifiers.{KeyIdentifier, otherAuthority, notEmpty, notTwenty}
-use Rattle.report.specs.Entries.{noted}
-use Rattle.report.specs.declared.sink.Entry.{Entry}
+-- Rules 401 to 403 (document 01, "Rules on extensions"). "Place: the OCTET STRING", which is the slot's holder. Slots 1 authority key id, 2 basic
+-- constraints, 3 subject key id.
+use mathlib.Core.Bool.{Bool, false, cond, not}
+use mathlib.Core.List.{List, [], _∷_}
+use Prim.Native.Nat.{ℕ, _-_}
+use lib.Dec.{ltb, eqb}
+use Rattle.octets.specs.Same.{sameBy, exactly}
+use Rattle.der.specs.Contents.{contentsOf}
+use Rattle.der.specs.Members.{firstIn}
+use Rattle.der.specs.declared.header.Head.{Head}
+use Rattle.certificate.specs.Issuer.{KeyIdentifier}
+use Rattle.facts.specs.Case.{Case, slot}
+use Rattle.forms.specs.Values.{whereGood}
+use Rattle.report.specs.Rows.{Row, _⦂_, brokenAt}
+
+-- AuthorityKeyIdentifier ::= SEQUENCE { keyIdentifier [0] KeyIdentifier OPTIONAL, .. }: the first member, if its tag is [0], 80 hex
+abbrev pub authorityKey : List ℕ → Head → KeyIdentifier
+authorityKey s v = cond (eqb (firstIn s v .tag) 0x80) (KeyIdentifier.some (contentsOf s (firstIn s v))) KeyIdentifier.none
+
+-- both are there, and are the same octets
+abbrev pub sameKey : KeyIdentifier → KeyIdentifier → Bool
+sameKey KeyIdentifier.none b = false
+sameKey (KeyIdentifier.some a) KeyIdentifier.none = false
+sameKey (KeyIdentifier.some a) (KeyIdentifier.some b) = sameBy exactly a b
+
+unfoldable pub isHeldBy : List ℕ → Head → KeyIdentifier → Bool
+isHeldBy s v key = sameKey (authorityKey s v) key
 
 -- 401 "key identifier present and equal to the issuer's subject key id (broken if the issuer has none, or a bad one)"
-abbrev pub rule401 : List ℕ → Value → KeyIdentifier → List Entry
-rule401 s v key = noted 401 (otherAuthority s (v .element) key) (v .holder)
+abbrev pub rule401 : Case → List Head
+rule401 f = whereGood (slot f 1) (brokenAt (not (isHeldBy (f .octets) (slot f 1 .element) (f .issuer .key))) (slot f 1 .holder))
 
--- 402 "S: basic constraints empty"
-abbrev pub rule402 : Profile → Value → List Entry
-rule402 p v = noted 402 (isServer p && notEmpty (v .element)) (v .holder)
+abbrev pub isFilled : Head → Bool
+isFilled v = ltb (v .body) (v .end)
+
+-- 402 "basic constraints empty"
+abbrev pub rule402 : Case → List Head
+rule402 f = whereGood (slot f 2) (brokenAt (isFilled (slot f 2 .element)) (slot f 2 .holder))
+
+abbrev pub isTwenty : Head → Bool
+isTwenty v = eqb (v .end - v .body) 20
 
 -- 403 "subject key id 20 octets"
-abbrev pub rule403 : Value → List Entry
-rule403 v = noted 403 (notTwenty (v .element)) (v .holder)
+abbrev pub rule403 : Case → List Head
+rule403 f = whereGood (slot f 3) (brokenAt (not (isTwenty (slot f 3 .element))) (slot f 3 .holder))
 
--- slots 1 authority key id, 2 basic constraints, 3 subject key id
-unfoldable pub identifierFindings : Profile → List ℕ → List ℕ → KeyIdentifier → List Entry
-identifierFindings p s values key =
-    rule401 s (valueAt s values 1) key ++ (rule402 p (valueAt s values 2) ++ rule403 (valueAt s values 3))
+unfoldable pub keyIdentifierRows : Case → List Row
+keyIdentifierRows f = 401 ⦂ rule401 f ∷ 402 ⦂ rule402 f ∷ 403 ⦂ rule403 f ∷ []

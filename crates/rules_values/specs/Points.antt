@@ -1,29 +1,29 @@
--- Rules 418 and 419 (document 01, "Rules on extensions").
-use mathlib.Core.Bool.{Bool, not, _&&_}
-use mathlib.Core.List.{List, _++_}
-use Prim.Native.Nat.{ℕ}
+-- Rules 418 and 419 (document 01, "Rules on extensions"). Slot 9 is CRL distribution points.
+use mathlib.Core.Bool.{not}
+use mathlib.Core.List.{List, [], _∷_}
 use Rattle.der.specs.declared.header.Head.{Head}
-use Rattle.certificate.specs.Slots.{valueAt}
-use Rattle.certificate.specs.declared.slots.Value.{Value}
-use Rattle.der.specs.Members.{membersIn}
-use Rattle.names.specs.Points.{httpFullName, isRestricted}
-use Rattle.report.specs.Entries.{noted}
-use Rattle.report.specs.Forms.{each}
-use Rattle.report.specs.declared.sink.Entry.{Entry}
+use Rattle.facts.specs.Case.{Case, slot}
+use Rattle.forms.specs.Values.{whereGood}
 use Rattle.der.specs.Elements.{anyOf}
+use Rattle.der.specs.Members.{membersIn}
+use Rattle.locations.specs.Uris.{isHttp}
+use Rattle.locations.specs.Points.{isRestricted}
+use Rattle.forms.specs.Lists.{itemsWithin}
+use Rattle.forms.specs.declared.nests.Nest.the-variants.{Point}
+use Rattle.report.specs.Forms.{filter}
+use Rattle.report.specs.Rows.{Row, _⦂_, brokenAt}
 
--- the value is judged, and no full name has an HTTP URI
-abbrev pub lacksHttp : List ℕ → Head → Bool
-lacksHttp s v = v .sound && not (anyOf (httpFullName s) (membersIn s v))
+-- the names of the points' full names
+abbrev pub fullNamesIn : Case → List Head
+fullNamesIn f = itemsWithin Point (f .octets) (slot f 9 .element .body) (slot f 9 .element .end)
 
 -- 418 "an HTTP URI in some full name"
-abbrev pub rule418 : List ℕ → Value → List Entry
-rule418 s v = noted 418 (lacksHttp s (v .element)) (v .holder)
+abbrev pub rule418 : Case → List Head
+rule418 f = whereGood (slot f 9) (brokenAt (not (anyOf (isHttp (f .octets)) (fullNamesIn f))) (slot f 9 .holder))
 
 -- 419 "each point with reasons or cRLIssuer"
-abbrev pub rule419 : List ℕ → Value → List Entry
-rule419 s v = each 419 (isRestricted s) (membersIn s (v .element))
+abbrev pub rule419 : Case → List Head
+rule419 f = whereGood (slot f 9) (filter (isRestricted (f .octets)) (membersIn (f .octets) (slot f 9 .element)))
 
--- slot 9 CRL points
-unfoldable pub pointFindings : List ℕ → List ℕ → List Entry
-pointFindings s values = rule418 s (valueAt s values 9) ++ rule419 s (valueAt s values 9)
+unfoldable pub pointRows : Case → List Row
+pointRows f = 418 ⦂ rule418 f ∷ 419 ⦂ rule419 f ∷ []

@@ -1,35 +1,31 @@
--- Rules 404 and 405 (document 01, "Rules on extensions").
-use mathlib.Core.Bool.{cond}
-use mathlib.Core.List.{List, _++_}
+-- Rules 404 and 405 (document 01, "Rules on extensions"). Slot 4 is key usage.
+use mathlib.Core.Bool.{not}
+use mathlib.Core.List.{List, [], _∷_}
 use Prim.Native.Nat.{ℕ}
-use Rattle.profiles.specs.Fields.{isServer}
+use Rattle.der.specs.declared.header.Head.{Head}
+use Rattle.facts.specs.Case.{Case, slot}
+use Rattle.forms.specs.Values.{whereGood}
+use Rattle.profiles.specs.Values.{usageWithRsa, usageWithCurve}
 use Rattle.profiles.specs.declared.fields.Profile.{Profile}
-use Rattle.certificate.specs.Slots.{valueAt}
 use Rattle.certificate.specs.declared.key.KeyKind.{KeyKind}
 use Rattle.certificate.specs.declared.key.KeyKind.the-variants.{Rsa, EllipticCurve, Other}
-use Rattle.certificate.specs.declared.slots.Value.{Value}
-use Rattle.values.specs.Usage.{unsignedOf, otherUsage}
-use Rattle.report.specs.Entries.{noted}
-use Rattle.report.specs.declared.sink.Entry.{Entry}
+use Rattle.usages.specs.Usage.{bitAt, usageOf, digitalSignature, otherBits}
+use Rattle.report.specs.Rows.{Row, _⦂_, brokenAt}
 
 -- 404 "digitalSignature set"
-abbrev pub rule404 : List ℕ → Value → List Entry
-rule404 s v = noted 404 (unsignedOf s (v .element)) (v .holder)
-
--- keyEncipherment is bit 2 and keyAgreement bit 4 of the first octet, bit 0 the high one: 20 and 8 hex
-abbrev pub usageWith : KeyKind → ℕ
-usageWith Rsa = 0x20
-usageWith EllipticCurve = 0x08
-usageWith Other = 0
+abbrev pub rule404 : Case → List Head
+rule404 f = whereGood (slot f 4) (brokenAt (not (bitAt (usageOf (f .octets) (slot f 4 .element)) digitalSignature)) (slot f 4 .holder))
 
 -- "keyEncipherment with RSA, keyAgreement with EC (S); none (O or another key)"
 abbrev pub allowedUsage : Profile → KeyKind → ℕ
-allowedUsage p kind = cond (isServer p) (usageWith kind) 0
+allowedUsage p Rsa = usageWithRsa p
+allowedUsage p EllipticCurve = usageWithCurve p
+allowedUsage p Other = 0
 
--- 405 "no bit besides: keyEncipherment with RSA, keyAgreement with EC (S); none (O or another key)"
-abbrev pub rule405 : Profile → List ℕ → KeyKind → Value → List Entry
-rule405 p s kind v = noted 405 (otherUsage s (v .element) (allowedUsage p kind)) (v .holder)
+-- 405 "no bit besides"
+abbrev pub rule405 : Profile → Case → List Head
+rule405 p f =
+    whereGood (slot f 4) (brokenAt (otherBits (usageOf (f .octets) (slot f 4 .element)) (allowedUsage p (f .key .kind))) (slot f 4 .holder))
 
--- slot 4 key usage
-unfoldable pub usageFindings : Profile → List ℕ → KeyKind → List ℕ → List Entry
-usageFindings p s kind values = rule404 s (valueAt s values 4) ++ rule405 p s kind (valueAt s values 4)
+unfoldable pub usageRows : Profile → Case → List Row
+usageRows p f = 404 ⦂ rule404 f ∷ 405 ⦂ rule405 p f ∷ []

@@ -1,31 +1,54 @@
 // Rules 401 to 403: both key identifiers, and basic constraints.
 use der::Head;
+use facts::Facts;
 use profiles::Profile;
-ghost use Rattle.values.specs.Identifiers.{keyIdentifierOf};
-ghost use Rattle.report.specs.Putting.{Put};
-ghost use Rattle.rules_values.specs.Identifiers.{identifierFindings};
+ghost use mathlib.Core.Path.{_≡_};
+ghost use Rattle.certificate.specs.Issuer.{keyIdentifierOf};
+ghost use Rattle.facts.specs.Case.{caseOf};
+ghost use Rattle.report.specs.Rows.{Puts};
+ghost use Rattle.rules_values.specs.Identifiers.{isHeldBy, isFilled, isTwenty, keyIdentifierRows};
 
-// `key` is the OCTET STRING of the issuer's key identifier, and is not sound if it has none.
+// Whether the authority key id v has a key identifier, and the issuer has the same. `key` is the issuer's OCTET STRING in
+// its octets i, if it has a good one.
+fn is_held_by(s: &[u8], v: Head, i: &[u8], has: bool, key: Head) -> bool
+    ensures { λ r. ⌜ r ≡ isHeldBy (now (s .entry)) v (keyIdentifierOf (now (i .entry)) has key) ⌝ }
+{
+    let member = der::first_in(s, v);
+    let same = der::same_contents(s, member, i, key);
+    (member.tag == 128) & (has & same)
+}
+
+fn is_filled(v: Head) -> bool
+    ensures { λ r. ⌜ r ≡ isFilled v ⌝ }
+{
+    v.body < v.end
+}
+
+fn is_twenty(v: Head) -> bool
+    ensures { λ r. ⌜ r ≡ isTwenty v ⌝ }
+{
+    octets::minus(v.end, v.body) == 20
+}
+
+// Slots 1 authority key id, 2 basic constraints, 3 subject key id.
 pub fn identifier_rules(
     room: &mut [u8],
     n: usize,
     p: Profile,
     s: &[u8],
-    values: &[usize],
+    f: Facts,
     issuer: &[u8],
-    key: Head,
 ) -> usize
-    ensures { λ r. ⌜ Put
-        (identifierFindings p (now (s .entry)) (now (values .entry)) (keyIdentifierOf (now (issuer .entry)) key))
-        n (now (room .entry)) r (now (room .exit)) ⌝ }
+    ensures { λ r. ⌜ Puts p (keyIdentifierRows (caseOf (now (s .entry)) f (now (issuer .entry)))) n (now (room .entry)) r (now (room .exit)) ⌝ }
 {
-    let authority = certificate::value_at(s, values, 1);
-    let constraints = certificate::value_at(s, values, 2);
-    let subject = certificate::value_at(s, values, 3);
-    let other = values::other_authority(s, authority.element, issuer, key);
-    let filled = profiles::is_server(p) & values::not_empty(constraints.element);
-    let long = values::not_twenty(subject.element);
-    let a = report::note(room, n, 401, other, authority.holder);
-    let b = report::note(room, a, 402, filled, constraints.holder);
-    report::note(room, b, 403, long, subject.holder)
+    let i = f.issuer;
+    let authority = f.slots[1];
+    let constraints = f.slots[2];
+    let subject = f.slots[3];
+    let held = is_held_by(s, authority.element, issuer, i.has_key_id, i.key_id);
+    let filled = is_filled(constraints.element);
+    let twenty = is_twenty(subject.element);
+    let a = forms::judge_value(room, n, p, 401, authority, !held);
+    let b = forms::judge_value(room, a, p, 402, constraints, filled);
+    forms::judge_value(room, b, p, 403, subject, !twenty)
 }

@@ -1,25 +1,26 @@
 // Rules 418 and 419: CRL distribution points.
-use der::Head;
-use items::Kind;
+use facts::Facts;
+use forms::Kind;
+use forms::Nest;
 use profiles::Profile;
-ghost use mathlib.Core.Path.{_≡_};
-ghost use Rattle.report.specs.Putting.{Put};
-ghost use Rattle.rules_values.specs.Points.{lacksHttp, pointFindings};
+ghost use Rattle.facts.specs.Case.{caseOf};
+ghost use Rattle.report.specs.Rows.{Puts};
+ghost use Rattle.rules_values.specs.Points.{pointRows};
 
-// Whether the value is judged, and no full name has an HTTP URI.
-fn lacks_http(s: &[u8], v: Head) -> bool
-    ensures { λ r. ⌜ r ≡ lacksHttp (now (s .entry)) v ⌝ }
+// Slot 9 is CRL distribution points.
+pub fn point_rules(
+    room: &mut [u8],
+    n: usize,
+    p: Profile,
+    s: &[u8],
+    f: Facts,
+    issuer: &[u8],
+) -> usize
+    ensures { λ r. ⌜ Puts p (pointRows (caseOf (now (s .entry)) f (now (issuer .entry)))) n (now (room .entry)) r (now (room .exit)) ⌝ }
 {
-    v.sound & !names::some_http_point(s, v.body, v.end)
-}
-
-// Both rules hold for all profiles.
-pub fn point_rules(room: &mut [u8], n: usize, p: Profile, s: &[u8], values: &[usize]) -> usize
-    ensures { λ r. ⌜ Put (pointFindings (now (s .entry)) (now (values .entry))) n (now (room .entry)) r (now (room .exit)) ⌝ }
-{
-    let value = certificate::value_at(s, values, 9);
-    let list = value.element;
-    let lacking = lacks_http(s, list);
-    let a = report::note(room, n, 418, lacking, value.holder);
-    items::each(room, a, 419, Kind::Restricted, p, 0, s, list.body, list.end)
+    let v = f.slots[9];
+    let list = v.element;
+    let lacking = forms::none_within(Nest::Point, Kind::HttpUri, p, s, list.body, list.end);
+    let a = forms::judge_value(room, n, p, 418, v, lacking);
+    forms::judge_items(room, a, p, 419, Kind::Restricted, s, v)
 }

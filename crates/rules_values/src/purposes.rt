@@ -1,25 +1,25 @@
 // Rules 407 and 408: the purposes of extended key usage.
-use items::Kind;
+use facts::Facts;
+use forms::Kind;
 use profiles::Profile;
-ghost use Rattle.report.specs.Putting.{Put};
-ghost use Rattle.rules_values.specs.Purposes.{purposeFindings};
+ghost use Rattle.facts.specs.Case.{caseOf};
+ghost use Rattle.report.specs.Rows.{Puts};
+ghost use Rattle.rules_values.specs.Purposes.{purposeRows};
 
-pub fn purpose_rules(room: &mut [u8], n: usize, p: Profile, s: &[u8], values: &[usize]) -> usize
-    ensures { λ r. ⌜ Put (purposeFindings p (now (s .entry)) (now (values .entry))) n (now (room .entry)) r (now (room .exit)) ⌝ }
+// Slot 5 is extended key usage.
+pub fn purpose_rules(
+    room: &mut [u8],
+    n: usize,
+    p: Profile,
+    s: &[u8],
+    f: Facts,
+    issuer: &[u8],
+) -> usize
+    ensures { λ r. ⌜ Puts p (purposeRows p (caseOf (now (s .entry)) f (now (issuer .entry)))) n (now (room .entry)) r (now (room .exit)) ⌝ }
 {
-    let value = certificate::value_at(s, values, 5);
-    let list = value.element;
-    let lacking = values::no_wanted_purpose(s, list, profiles::is_server(p));
-    let a = report::note(room, n, 407, lacking, value.holder);
-    items::each(
-        room,
-        a,
-        408,
-        Kind::OtherPurpose,
-        p,
-        0,
-        s,
-        list.body,
-        list.end,
-    )
+    let v = f.slots[5];
+    let list = v.element;
+    let lacking = forms::none_of(Kind::WantedPurpose, p, s, list.body, list.end);
+    let a = forms::judge_value(room, n, p, 407, v, lacking);
+    forms::judge_items(room, a, p, 408, Kind::OtherPurpose, s, v)
 }

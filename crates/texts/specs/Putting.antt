@@ -14,6 +14,6 @@ unfoldable pub bufferAfter : List ℕ → ℕ → List ℕ → List ℕ
 bufferAfter bs n out = sets out n bs
 
 -- A function that puts the octets bs at place n: its answer r, the place behind them, and the buffer that it leaves, last.
-pub record Put (bs : List ℕ) (n : ℕ) (out : List ℕ) (r : ℕ) (last : List ℕ) : Type 0 where
+pub record Spelled (bs : List ℕ) (n : ℕ) (out : List ℕ) (r : ℕ) (last : List ℕ) : Type 0 where
   pub place : r ≡ placeAfter (length bs) n (length out)
   pub octets : last ≡ bufferAfter bs n out

@@ -4,11 +4,11 @@ ghost use mathlib.Core.List.{[], _∷_, _++_};
 ghost use Prim.Native.Nat.{_<_};
 ghost use lib.ListN.{length, drop};
 ghost use Rattle.texts.specs.Texts.{decimal as Decimal};
-ghost use Rattle.texts.specs.Putting.{Put};
+ghost use Rattle.texts.specs.Putting.{Spelled};
 
 // One octet.
 fn put(out: &mut [u8], n: usize, b: u8) -> usize
-    ensures { λ r. ⌜ Put (b ∷ []) n (now (out .entry)) r (now (out .exit)) ⌝ }
+    ensures { λ r. ⌜ Spelled (b ∷ []) n (now (out .entry)) r (now (out .exit)) ⌝ }
 {
     if n < out.len() {
         out[n] = b;
@@ -18,7 +18,7 @@ fn put(out: &mut [u8], n: usize, b: u8) -> usize
 }
 
 pub fn word(out: &mut [u8], n: usize, text: &[u8]) -> usize
-    ensures { λ r. ⌜ Put (now (text .entry)) n (now (out .entry)) r (now (out .exit)) ⌝ }
+    ensures { λ r. ⌜ Spelled (now (text .entry)) n (now (out .entry)) r (now (out .exit)) ⌝ }
 {
     let mut m = n;
     let mut i: usize = 0;
@@ -47,7 +47,7 @@ fn digits(x: usize, space: &mut [u8]) -> usize
 }
 
 pub fn decimal(out: &mut [u8], n: usize, x: usize) -> usize
-    ensures { λ r. ⌜ Put (Decimal x) n (now (out .entry)) r (now (out .exit)) ⌝ }
+    ensures { λ r. ⌜ Spelled (Decimal x) n (now (out .entry)) r (now (out .exit)) ⌝ }
 {
     let mut space = [0u8; 20];
     let at = digits(x, &mut space);
@@ -56,7 +56,7 @@ pub fn decimal(out: &mut [u8], n: usize, x: usize) -> usize
 
 // A word, and a number behind it.
 pub fn field(out: &mut [u8], n: usize, text: &[u8], x: usize) -> usize
-    ensures { λ r. ⌜ Put (now (text .entry) ++ Decimal x) n (now (out .entry)) r (now (out .exit)) ⌝ }
+    ensures { λ r. ⌜ Spelled (now (text .entry) ++ Decimal x) n (now (out .entry)) r (now (out .exit)) ⌝ }
 {
     let m = word(out, n, text);
     decimal(out, m, x)

@@ -3,7 +3,7 @@ use mathlib.Core.Path.{_≡_, refl}
 use mathlib.Core.List.{[], _∷_, map}
 use Rattle.trees.specs.Trees.{numberBy, numberOctets, lengthOctets, element, encode}
 use Rattle.trees.specs.Reading.{treesOf, treeOf, parse}
-use Rattle.trees.specs.Examples.{Example, table}
+use Rattle.trees.specs.Examples.{TreeExample, treeExamples}
 use Rattle.octets.specs.Octets.{octetsFrom}
 use Rattle.octets.specs.Numbers.{numberFrom}
 use Rattle.der.specs.Header.{headOf, childrenOf, childrenBy}
@@ -13,16 +13,17 @@ use Rattle.der.specs.Elements.{elementsOf}
 use Rattle.der.specs.Soundness.{first, soundness, stretchSoundness, derSoundness}
 use Rattle.der.specs.declared.walk.Soundness.the-variants.{Sound}
 
-pub encoded : map (λ (e : Example). encode (e .tree)) table ≡ map (λ (e : Example). e .octets) table
-unfolding table encode element lengthOctets numberOctets numberBy
+pub encoded : map (λ (e : TreeExample). encode (e .tree)) treeExamples ≡ map (λ (e : TreeExample). e .octets) treeExamples
+unfolding treeExamples encode element lengthOctets numberOctets numberBy
 encoded = refl
 
-pub parsed : map (λ (e : Example). parse (e .octets)) table ≡ map (λ (e : Example). e .tree) table
-unfolding table parse treeOf treesOf headOf childrenOf childrenBy octetsFrom numberFrom
+pub parsed : map (λ (e : TreeExample). parse (e .octets)) treeExamples ≡ map (λ (e : TreeExample). e .tree) treeExamples
+unfolding treeExamples parse treeOf treesOf headOf childrenOf childrenBy octetsFrom numberFrom
 parsed = refl
 
-pub judged : map (λ (e : Example). derSoundness (e .octets)) table ≡ map (λ (e : Example). Sound) table
-unfolding table stretchSoundness soundness first elementsOf elementOk primitiveOk arcsOk ascendFrom octetsLe headOf childrenOf childrenBy octetsFrom numberFrom
+pub judged : map (λ (e : TreeExample). derSoundness (e .octets)) treeExamples ≡ map (λ (e : TreeExample). Sound) treeExamples
+unfolding treeExamples stretchSoundness soundness first elementsOf elementOk primitiveOk arcsOk ascendFrom octetsLe headOf childrenOf childrenBy
+    octetsFrom numberFrom
 judged = refl
 
 -- 8.1.3.4 and 8.1.3.5: a length of 38 takes one octet, 201 one more; and beside X.690's own, 127, 300 and 65,536

@@ -3,7 +3,7 @@ use mathlib.Core.List.{List, [], _∷_}
 use Prim.Native.Nat.{ℕ}
 use Rattle.trees.specs.Trees.{Class, universal, application, contextSpecific, Tag, Tree, primitive, constructed, nothing, _then_}
 
-pub record Example : Type 0 where
+pub record TreeExample : Type 0 where
   pub tree : Tree
   pub octets : List ℕ
 
@@ -20,8 +20,8 @@ jones = 0x4A ∷ 0x6F ∷ 0x6E ∷ 0x65 ∷ 0x73 ∷ []
 abbrev type2 : Tree
 type2 = primitive (tag application 3) jones
 
-unfoldable pub table : List Example
-table =
+unfoldable pub treeExamples : List TreeExample
+treeExamples =
     -- 8.2.2, BOOLEAN TRUE
     record { tree = primitive (tag universal 1) (0xFF ∷ []); octets = 0x01 ∷ 0x01 ∷ 0xFF ∷ [] }
     -- 8.6.4.2, the bits 0A3B5F291CD

@@ -127,14 +127,14 @@ unfoldable pub encodings : Trees → List (List ℕ)
 encodings nothing = []
 encodings (t then ts) = encode t ∷ encodings ts
 
-abbrev pub setOf : Tag
-setOf = record { class = universal; number = 17 }
+abbrev pub setTag : Tag
+setTag = record { class = universal; number = 17 }
 
 unfoldable mutual
-  pub Ordered : Tree → Type 0
-  Ordered (primitive tag contents) = Unit {0}
-  Ordered (constructed tag ts) = (tag ≡ setOf → Ascending (encodings ts)) × AllOrdered ts
+  pub SetsOrdered : Tree → Type 0
+  SetsOrdered (primitive tag contents) = Unit {0}
+  SetsOrdered (constructed tag ts) = (tag ≡ setTag → Ascending (encodings ts)) × AllSetsOrdered ts
 
-  pub AllOrdered : Trees → Type 0
-  AllOrdered nothing = Unit {0}
-  AllOrdered (t then ts) = Ordered t × AllOrdered ts
+  pub AllSetsOrdered : Trees → Type 0
+  AllSetsOrdered nothing = Unit {0}
+  AllSetsOrdered (t then ts) = SetsOrdered t × AllSetsOrdered ts

@@ -11,33 +11,33 @@ use Rattle.lint.specs.declared.judging.Judgement.{Judgement}
 use Rattle.lint.specs.declared.judging.Judgement.the-variants as Judgements
 use Rattle.lint.specs.declared.refusals.Refusal.the-variants.{NoNumber, NoRoom}
 use Rattle.blocks.specs.Record.{recordOf, parts}
-use Rattle.writer.specs.Cutting.{blocksOf, joined}
-use Rattle.writer.specs.declared.writing.Answer.{Answer}
-use Rattle.writer.specs.declared.writing.Answer.the-variants.{Blocks, Refused}
+use Rattle.writer.specs.Cutting.{blocksOf, endToEnd}
+use Rattle.writer.specs.declared.writing.Placing.{Placing}
+use Rattle.writer.specs.declared.writing.Placing.the-variants.{Blocks, Refused}
 
 -- 7: "room is short when 512 a block exceed the lent length"
-abbrev pub byRoom : ℕ → ℕ → Answer
+abbrev pub byRoom : ℕ → ℕ → Placing
 byRoom count room = cond (leb (512 * count) room) (Blocks count) (Refused NoRoom)
 
 -- 1, 2 and 3 as the linter has them, 8 "record number 0", then 7
-abbrev pub byAdmission : Judgement → ℕ → ℕ → ℕ → Answer
+abbrev pub byAdmission : Judgement → ℕ → ℕ → ℕ → Placing
 byAdmission (Judgements.Refused r) number count room = Refused r
 byAdmission (Judgements.Accepted p) number count room = cond (eqb number 0) (Refused NoNumber) (byRoom count room)
 
-unfoldable pub writeAnswer : ℕ → ℕ → List ℕ → List ℕ → List ℕ → Answer
+unfoldable pub writeAnswer : ℕ → ℕ → List ℕ → List ℕ → List ℕ → Placing
 writeAnswer number profile certificate issuer room =
     byAdmission (admissionOf (length certificate) (length issuer) profile) number (parts (length (recordOf profile certificate issuer))) (length room)
 
 -- the blocks and the rest of the room, or on refusal the room as it was
-abbrev pub roomAfter : Answer → List (List ℕ) → List ℕ → List ℕ
-roomAfter (Blocks count) blocks room = joined blocks ++ drop (512 * count) room
-roomAfter (Refused r) blocks room = room
+abbrev pub roomWritten : Placing → List (List ℕ) → List ℕ → List ℕ
+roomWritten (Blocks count) blocks room = endToEnd blocks ++ drop (512 * count) room
+roomWritten (Refused r) blocks room = room
 
 unfoldable pub writeRoom : ℕ → ℕ → List ℕ → List ℕ → List ℕ → List ℕ
 writeRoom number profile certificate issuer room =
-    roomAfter (writeAnswer number profile certificate issuer room) (blocksOf number (recordOf profile certificate issuer)) room
+    roomWritten (writeAnswer number profile certificate issuer room) (blocksOf number (recordOf profile certificate issuer)) room
 
 -- the whole of it
-pub record Written (number profile : ℕ) (certificate issuer room : List ℕ) (r : Answer) (last : List ℕ) : Type 0 where
+pub record Written (number profile : ℕ) (certificate issuer room : List ℕ) (r : Placing) (last : List ℕ) : Type 0 where
   pub told : r ≡ writeAnswer number profile certificate issuer room
   pub bytes : last ≡ writeRoom number profile certificate issuer room

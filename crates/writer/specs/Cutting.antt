@@ -19,6 +19,6 @@ unfoldable pub blocksOf : ℕ → List ℕ → List (List ℕ)
 blocksOf number p = blocksFrom number (length p) 0 (parts (length p)) (zeroFilled p)
 
 -- blocks one behind the other
-abbrev pub joined : List (List ℕ) → List ℕ
-joined [] = []
-joined (b ∷ bs) = b ++ joined bs
+abbrev pub endToEnd : List (List ℕ) → List ℕ
+endToEnd [] = []
+endToEnd (b ∷ bs) = b ++ endToEnd bs

@@ -1,5 +1,5 @@
 // The deck's writer: a record in, its blocks or a refusal out.
 mod writing;
 
-pub use writing::Answer;
+pub use writing::Placing;
 pub use writing::write_record;

@@ -8,10 +8,10 @@ ghost use lib.ListN.{length, take, drop};
 ghost use Rattle.octets.specs.Numbers.{pairOf, quadOf};
 ghost use Rattle.blocks.specs.Block.{blockOf, checkOf};
 ghost use Rattle.blocks.specs.Record.{recordOf, parts};
-ghost use Rattle.writer.specs.Cutting.{blocksFrom, blocksOf, joined};
+ghost use Rattle.writer.specs.Cutting.{blocksFrom, blocksOf, endToEnd};
 ghost use Rattle.writer.specs.Answers.{Written};
 
-pub enum Answer {
+pub enum Placing {
     // so many blocks
     Blocks(usize),
     Refused(Refusal),
@@ -69,7 +69,7 @@ fn put_block(number: u32, n: usize, part: usize, desk: &[u8], block: &mut [u8])
 // All its blocks, `count` of them, at the front of the room: "parts from 0, 502 octets each".
 fn put_blocks(number: u32, n: usize, count: usize, desk: &[u8], room: &mut [u8])
     requires { ⌜ (n < 65536) × (count < 256) × (count * 502 ≤ length (now desk)) × (512 * count ≤ length (now room)) ⌝ }
-    ensures { λ _. ⌜ now (room .exit) ≡ joined (blocksFrom number n 0 count (now (desk .entry))) ++ drop (512 * count) (now (room .entry)) ⌝ }
+    ensures { λ _. ⌜ now (room .exit) ≡ endToEnd (blocksFrom number n 0 count (now (desk .entry))) ++ drop (512 * count) (now (room .entry)) ⌝ }
 {
     let mut part: usize = 0;
     while part < count {
@@ -91,7 +91,7 @@ fn put_record(
 )
     requires { ⌜ (length (now certificate) ≤ 8192) × (length (now issuer) ≤ 8192)
         × (count ≡ parts (length (recordOf profile (now certificate) (now issuer)))) × (512 * count ≤ length (now room)) ⌝ }
-    ensures { λ _. ⌜ now (room .exit) ≡ joined (blocksOf number (recordOf profile (now (certificate .entry)) (now (issuer .entry))))
+    ensures { λ _. ⌜ now (room .exit) ≡ endToEnd (blocksOf number (recordOf profile (now (certificate .entry)) (now (issuer .entry))))
         ++ drop (512 * count) (now (room .entry)) ⌝ }
 {
     let mut desk = [0u8; blocks::DESK];
@@ -106,20 +106,20 @@ pub fn write_record(
     certificate: &[u8],
     issuer: &[u8],
     room: &mut [u8],
-) -> Answer
+) -> Placing
     ensures { λ r. ⌜ Written number profile (now (certificate .entry)) (now (issuer .entry)) (now (room .entry)) r (now (room .exit)) ⌝ }
 {
     let admission = lint::admit(certificate.len(), issuer.len(), profile);
     if let Judgement::Refused(r) = admission {
-        return Answer::Refused(r);
+        return Placing::Refused(r);
     }
     if number == 0 {
-        return Answer::Refused(Refusal::NoNumber);
+        return Placing::Refused(Refusal::NoNumber);
     }
     let count = blocks::parts_of(3 + certificate.len() + issuer.len());
     if room.len() < 512 * count {
-        return Answer::Refused(Refusal::NoRoom);
+        return Placing::Refused(Refusal::NoRoom);
     }
     put_record(number, profile, certificate, issuer, count, room);
-    Answer::Blocks(count)
+    Placing::Blocks(count)
 }

@@ -6,7 +6,7 @@ use mathlib.Core.Path.{_≡_, refl, ap, _∙_}
 use mathlib.Core.Bool.{Bool, true, false, cond}
 use mathlib.Core.List.{List, [], _∷_}
 use Prim.Native.Nat.{ℕ}
-use Rattle.asn.specs.Grammar.{Form, Inside, Slots, passes, inOrder, takes, after, fits, holds, follows, isFits}
+use Rattle.asn.specs.Grammar.{Form, Inside, Slots, passes, setInOrder, takes, unlessWrong, fits, holds, follows, isFits}
 use Rattle.asn.specs.Grammar.Form.{none, alt}
 use Rattle.asn.specs.Grammar.Inside.{leaf, parts, set}
 use Rattle.asn.specs.Grammar.Slots.{done, one, opt, many}
@@ -25,7 +25,7 @@ data Settled : Verdict → Type 0 where
   well : Settled Fits
   badly : {p : ℕ} → Settled (Wrong p)
 
-after-settled : (v : Verdict) {a b : Verdict} → Settled a → Settled b → Settled (after v a b)
+after-settled : (v : Verdict) {a b : Verdict} → Settled a → Settled b → Settled (unlessWrong v a b)
 after-settled Stranger k l = k
 after-settled Fits k l = l
 after-settled (Wrong p) k l = badly
@@ -50,13 +50,13 @@ module _ (s : List ℕ) where
   unfolding holds
   holds-settled (leaf t) h = either-settled (passes t (h .tag) (contentsOf s h)) well badly
   holds-settled (parts p) h = follows-settled p (h .at) (childrenOf s (h .body) (h .end))
-  holds-settled (set p) h = either-settled (inOrder s h) (follows-settled p (h .at) (childrenOf s (h .body) (h .end))) badly
+  holds-settled (set p) h = either-settled (setInOrder s h) (follows-settled p (h .at) (childrenOf s (h .body) (h .end))) badly
 
 -- a verdict, and where it is that all fits the next one
 abbrev pub andThen : Verdict → Verdict → Verdict
 andThen v w = cond (isFits v) w v
 
-after-then : {v : Verdict} (a b : Verdict) → Settled v → after v a b ≡ andThen v b
+after-then : {v : Verdict} (a b : Verdict) → Settled v → unlessWrong v a b ≡ andThen v b
 after-then a b well = refl
 after-then a b badly = refl
 
@@ -96,7 +96,7 @@ module _ (s : List ℕ) (h : Head) where
     onward (here x q) = cond (mayStand (holding x) s h) (andThen (membersFollow x) (follows q s o hs)) (Wrong (h .at))
 
     in-field : (c : Alternative) (q : Slots) (other : Field) (a : Verdict) → a ≡ onward other
-        → after (asked c) a (follows q s o hs) ≡ onward (inField c q other)
+        → unlessWrong (asked c) a (follows q s o hs) ≡ onward (inField c q other)
     in-field nobody q other a e = e
     in-field (holding x) q other a e =
         after-then a (follows q s o hs) (holds-settled s x h)

@@ -9,7 +9,7 @@ use mathlib.Core.Bool.{Bool, true, false, cond}
 use Prim.Native.Nat.{ℕ}
 use native.Mathlib.Omega.{arith}
 use lib.ListN.{length}
-use Rattle.asn.specs.Grammar.{Form, Slots, takes, after, fits, holds, follows}
+use Rattle.asn.specs.Grammar.{Form, Slots, takes, unlessWrong, fits, holds, follows}
 use Rattle.asn.specs.Grammar.Form.{none, alt}
 use Rattle.asn.specs.Grammar.Inside.{parts}
 use Rattle.asn.specs.Grammar.Slots.{done, one, opt}
@@ -33,7 +33,7 @@ parts-fit i p s h = go (takes i (h .tag))
     go false e = (cc, cc)
 
 -- an element that fits, where another would have been wrong
-first-fits : (v rest : Verdict) (p : ℕ) → after v (Wrong p) rest ≡ Fits → (v ≡ Fits) × (rest ≡ Fits)
+first-fits : (v rest : Verdict) (p : ℕ) → unlessWrong v (Wrong p) rest ≡ Fits → (v ≡ Fits) × (rest ≡ Fits)
 first-fits Stranger rest p e = (cc, cc)
 first-fits Fits rest p e = (refl, e)
 first-fits (Wrong q) rest p e = (cc, cc)
@@ -55,7 +55,7 @@ unfolding follows
 opt-fits f p s o [] e = record { front = []; rest = []; is = refl; fit = absent; more = e }
 opt-fits f p s o (h ∷ hs) e = go (fits f s h) refl e
   where
-    go : (v : Verdict) → fits f s h ≡ v → after v (follows p s o (h ∷ hs)) (follows p s o hs) ≡ Fits → Perhaps f p s o (h ∷ hs)
+    go : (v : Verdict) → fits f s h ≡ v → unlessWrong v (follows p s o (h ∷ hs)) (follows p s o hs) ≡ Fits → Perhaps f p s o (h ∷ hs)
     go Stranger k e = record { front = []; rest = h ∷ hs; is = refl; fit = absent; more = e }
     go Fits k e = record { front = h ∷ []; rest = hs; is = refl; fit = present k; more = e }
     go (Wrong q) k e = let z : _≡_ {A = ℕ} 0 1 = cc in absurd (omega arith)

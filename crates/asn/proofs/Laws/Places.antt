@@ -7,12 +7,12 @@ use Prim.Native.Nat.{ℕ, _≤_, _<_}
 use native.Mathlib.Nat.{le-trans, le-refl, lt-of-lt-of-le}
 use native.Mathlib.Omega.{arith}
 use lib.ListN.{length}
-use Rattle.asn.specs.Grammar.{Form, Inside, Slots, inOrder, takes, passes, after, required, optional, repeated, ended, fits, holds, follows}
+use Rattle.asn.specs.Grammar.{Form, Inside, Slots, setInOrder, takes, passes, unlessWrong, required, optional, repeated, ended, fits, holds, follows}
 use Rattle.asn.specs.Grammar.Form.{none, alt}
 use Rattle.asn.specs.Grammar.Inside.{leaf, parts, set}
 use Rattle.asn.specs.Grammar.Slots.{done, one, opt, many}
 use Rattle.asn.specs.Module.{certificate}
-use Rattle.asn.specs.Answers.{certificateVerdict, refusalPlace}
+use Rattle.asn.specs.Answers.{certificateVerdict, verdictPlace}
 use Rattle.asn.specs.declared.fitting.Verdict.{Verdict}
 use Rattle.asn.specs.declared.fitting.Verdict.the-variants.{Stranger, Fits, Wrong}
 use Rattle.der.specs.Contents.{contentsOf}
@@ -51,7 +51,7 @@ module _ (s : List ℕ) (to : ℕ) (some : 0 < to) where
   -- ---- verdicts below the bound
 
   record LowVerdict (v : Verdict) : Type 0 where
-    below : refusalPlace v < to
+    below : verdictPlace v < to
 
   fits-at : LowVerdict Fits
   fits-at = record { below = some }
@@ -63,7 +63,7 @@ module _ (s : List ℕ) (to : ℕ) (some : 0 < to) where
   either true k l = k
   either false k l = l
 
-  after-low : (v : Verdict) {a b : Verdict} → LowVerdict v → LowVerdict a → LowVerdict b → LowVerdict (after v a b)
+  after-low : (v : Verdict) {a b : Verdict} → LowVerdict v → LowVerdict a → LowVerdict b → LowVerdict (unlessWrong v a b)
   after-low Stranger v a b = a
   after-low Fits v a b = b
   after-low (Wrong p) v a b = v
@@ -99,7 +99,7 @@ module _ (s : List ℕ) (to : ℕ) (some : 0 < to) where
     holds-low (leaf t) h k = either (passes t (h .tag) (contentsOf s h)) fits-at (wrong-at (k .starts))
     holds-low (parts p) h k = follows-low p (h .at) (k .starts) (childrenOf s (h .body) (h .end)) (members-low h k)
     holds-low (set p) h k =
-        either (inOrder s h) (follows-low p (h .at) (k .starts) (childrenOf s (h .body) (h .end)) (members-low h k)) (wrong-at (k .starts))
+        either (setInOrder s h) (follows-low p (h .at) (k .starts) (childrenOf s (h .body) (h .end)) (members-low h k)) (wrong-at (k .starts))
 
     follows-low : (p : Slots) (outer : ℕ) → outer < to → (hs : List Head) → AllLow hs → LowVerdict (follows p s outer hs)
     follows-low done outer o hs k = ended-low hs k
@@ -110,7 +110,7 @@ module _ (s : List ℕ) (to : ℕ) (some : 0 < to) where
     follows-low (many f p) outer o hs k =
         repeated-low (λ h. fits f s h) (λ hs. follows p s outer hs) (λ h l. fits-low f h l) (λ hs l. follows-low p outer o hs l) hs k
 
-pub departure-inside : (s : List ℕ) → 0 < length s → refusalPlace (certificateVerdict s) < length s
+pub departure-inside : (s : List ℕ) → 0 < length s → verdictPlace (certificateVerdict s) < length s
 unfolding certificateVerdict
 departure-inside s l =
     let low = children-low s (length s) l 0 (length s) (omega arith) (le-refl (length s)) in

@@ -17,11 +17,11 @@ use borrow.Author.Tests.{eq-eqb, ne-eqb, lt-ltb, le-ltb, eqb-true, eqb-false, lt
 use Rattle.asn.specs.declared.fitting.Verdict.{Verdict}
 use Rattle.asn.specs.declared.fitting.Verdict.the-variants.{Fits, Wrong}
 use Rattle.asn.specs.declared.fitting.Found.{Found}
-use Rattle.asn.specs.Grammar.{Form, Inside, Slots, passes, inOrder, takes, follows, isFits}
+use Rattle.asn.specs.Grammar.{Form, Inside, Slots, passes, setInOrder, takes, follows, isFits}
 use Rattle.asn.specs.Choosing.{alternativeFor, fieldFor, inField, mayStand, lacking}
 use Rattle.asn.specs.Choosing.Alternative.{nobody, holding}
 use Rattle.asn.specs.Choosing.Field.{nowhere, here}
-use Rattle.asn.specs.Table.{types, allForms, slotRows, said, formAt, slotsAt, testAt, insideOf, formOf, slotsOf, alternativeAt, fieldAt}
+use Rattle.asn.specs.Table.{testCount, types, allForms, slotRows, rowsSay, formAt, slotsAt, testAt, insideOf, formOf, fieldsOf, alternativeAt, fieldAt}
 use Rattle.octets.specs.Octets.{octetsFrom}
 use Rattle.der.specs.Header.{headOf, childrenOf}
 use Rattle.der.specs.declared.header.Head.{Head}
@@ -40,7 +40,7 @@ in-table f z rows m r e nz = go (ltb m (length rows)) refl
 
 -- The row r at place m of a table of types that is right: an alternative, with the others from the next row on; or the 0 that ends a type, which
 -- takes any identifier octet.
-module _ (rows : List ℕ) (right : said formOf Form.none rows ≡ allForms types) (m r : ℕ) (e : r ≡ getD rows m 0)
+module _ (rows : List ℕ) (right : rowsSay formOf Form.none rows ≡ allForms types) (m r : ℕ) (e : r ≡ getD rows m 0)
     (tag : ℕ) (took : Bool) (k : took ≡ takes (r / 256) tag) where
   form-row : formAt m ≡ formOf r (formAt (m + 1))
   unfolding formAt
@@ -68,10 +68,10 @@ module _ (rows : List ℕ) (right : said formOf Form.none rows ≡ allForms type
       no-zero z t = let y : _≡_ {A = Bool} true false = sym (k ∙ rw z) ∙ t in let x : _≡_ {A = ℕ} 0 1 = cc in omega arith
 
 -- the row r at place j of a table of fields that is right: a field, with the others from the next row on, or the end of the fields
-module _ (slots : List ℕ) (right : said slotsOf Slots.done slots ≡ slotRows) (j r : ℕ) (e : r ≡ getD slots j 0) where
-  slots-row : slotsAt j ≡ slotsOf r (slotsAt (j + 1))
+module _ (slots : List ℕ) (right : rowsSay fieldsOf Slots.done slots ≡ slotRows) (j r : ℕ) (e : r ≡ getD slots j 0) where
+  slots-row : slotsAt j ≡ fieldsOf r (slotsAt (j + 1))
   unfolding slotsAt
-  slots-row = rw e (row-law slotsOf Slots.done (λ a. refl) slots slotRows right j)
+  slots-row = rw e (row-law fieldsOf Slots.done (λ a. refl) slots slotRows right j)
 
   pub in-slots : (r / 256 ≡ 0 → ⊥) → j < length slots
   in-slots nz = in-table (λ x. x / 256) refl slots j r e nz
@@ -150,17 +150,17 @@ judged-now false false c t = refl
 
 -- an element, by the row of the alternative that takes it
 module _ (s : List ℕ) (h : Head) (r : ℕ) (nz : r ≡ 0 → ⊥) (good : Bool) where
-  pub stands-by-test : r % 128 < 12 → (n : ℕ) → n ≡ h .end - h .body → good ≡ passes (testAt (r % 128)) (h .tag) (octetsFrom s (h .body) n)
+  pub stands-by-test : r % 128 < testCount → (n : ℕ) → n ≡ h .end - h .body → good ≡ passes (testAt (r % 128)) (h .tag) (octetsFrom s (h .body) n)
       → good ≡ mayStand (alternativeAt r) s h
-  stands-by-test l n k g = rw (ne-eqb r 0 nz, lt-ltb (r % 128) 12 l, ← k) g
+  stands-by-test l n k g = rw (ne-eqb r 0 nz, lt-ltb (r % 128) testCount l, ← k) g
 
-  pub stands-in-order : 12 ≤ r % 128 → good ≡ (eqb (r / 128 % 2) 0 || inOrder s h) → good ≡ mayStand (alternativeAt r) s h
-  stands-in-order l g = rw (ne-eqb r 0 nz, le-ltb (r % 128) 12 l, g) (go (eqb (r / 128 % 2) 0))
+  pub stands-in-order : testCount ≤ r % 128 → good ≡ (eqb (r / 128 % 2) 0 || setInOrder s h) → good ≡ mayStand (alternativeAt r) s h
+  stands-in-order l g = rw (ne-eqb r 0 nz, le-ltb (r % 128) testCount l, g) (go (eqb (r / 128 % 2) 0))
     where
       fields : Slots
-      fields = slotsAt (r % 128 - 12)
+      fields = slotsAt (r % 128 - testCount)
 
-      go : (b : Bool) → (b || inOrder s h) ≡ mayStand (holding (cond b (Inside.parts fields) (Inside.set fields))) s h
+      go : (b : Bool) → (b || setInOrder s h) ≡ mayStand (holding (cond b (Inside.parts fields) (Inside.set fields))) s h
       go true = refl
       go false = refl
 
@@ -208,17 +208,17 @@ module _ {s : List ℕ} {p : Slots} {at end : ℕ} (o : ℕ) (x : First s p at e
   pub stands-not : not (x .good) ≡ true → follows p s o (childrenOf s at end) ≡ Wrong (x .h .at)
   stands-not t = rw (first-row, not-true (x .good) t)
 
-  pub stands : not (x .good) ≡ false → x .found .row % 128 < 12 → follows p s o (childrenOf s at end) ≡ rest
-  stands t l = rw (first-row, not-false (x .good) t, lt-ltb (x .found .row % 128) 12 l)
+  pub stands : not (x .good) ≡ false → x .found .row % 128 < testCount → follows p s o (childrenOf s at end) ≡ rest
+  stands t l = rw (first-row, not-false (x .good) t, lt-ltb (x .found .row % 128) testCount l)
 
   -- v is what the walk of its members says
-  module _ (t : not (x .good) ≡ false) (l : 12 ≤ x .found .row % 128) (v : Verdict)
-      (k : v ≡ follows (slotsAt (x .found .row % 128 - 12)) s (x .h .at) (childrenOf s (x .h .body) (x .h .end))) (well : Bool) (w : well ≡ isFits v) where
+  module _ (t : not (x .good) ≡ false) (l : testCount ≤ x .found .row % 128) (v : Verdict)
+      (k : v ≡ follows (slotsAt (x .found .row % 128 - testCount)) s (x .h .at) (childrenOf s (x .h .body) (x .h .end))) (well : Bool) (w : well ≡ isFits v) where
     by-members : follows p s o (childrenOf s at end) ≡ cond well rest v
-    by-members = rw (first-row, not-false (x .good) t, le-ltb (x .found .row % 128) 12 l, w, k) (go (eqb (x .found .row / 128 % 2) 0))
+    by-members = rw (first-row, not-false (x .good) t, le-ltb (x .found .row % 128) testCount l, w, k) (go (eqb (x .found .row / 128 % 2) 0))
       where
         fields : Slots
-        fields = slotsAt (x .found .row % 128 - 12)
+        fields = slotsAt (x .found .row % 128 - testCount)
 
         go : (b : Bool) → andThen (membersFollow s (x .h) (cond b (Inside.parts fields) (Inside.set fields))) rest
             ≡ andThen (follows fields s (x .h .at) (childrenOf s (x .h .body) (x .h .end))) rest

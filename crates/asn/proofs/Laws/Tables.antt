@@ -10,7 +10,7 @@ use Rattle.asn.specs.Module.{subjectPublicKeyInfo, extension, extensions
 use Rattle.asn.specs.Module.{generalName, generalNames, authorityKeyIdentifier, basicConstraints, subjectKeyIdentifier, keyUsage}
 use Rattle.asn.specs.Module.{extKeyUsage, policyQualifierInfo, policyInformation, certificatePolicies, accessDescription}
 use Rattle.asn.specs.Module.{authorityInfoAccess, distributionPointName, distributionPoint, cRLDistributionPoints, ocspNoCheck}
-use Rattle.asn.specs.Table.{Tables, types, alone, allForms, slotRows, formOf, slotsOf, said, formAt, slotsAt}
+use Rattle.asn.specs.Table.{Tables, types, alone, allForms, slotRows, formOf, fieldsOf, rowsSay, formAt, slotsAt}
 
 unfoldable pub rows : List ℕ
 rows =
@@ -39,14 +39,14 @@ unfoldable pub roots : List ℕ
 roots =
     0x68 ∷ 0x6A ∷ 0x6C ∷ 0x6E ∷ 0x70 ∷ 0x72 ∷ 0x74 ∷ 0x76 ∷ 0x78 ∷ 0x7A ∷ 0x7C ∷ []
 
-forms-right : said formOf Form.none rows ≡ allForms types
+forms-right : rowsSay formOf Form.none rows ≡ allForms types
 unfolding rows types judged slotsAt slotRows algorithmIdentifier attributeTypeAndValue relativeDistinguishedName name time validity
     subjectPublicKeyInfo extension extensions version tbsCertificate certificate otherName generalName generalNames authorityKeyIdentifier
     basicConstraints subjectKeyIdentifier keyUsage extKeyUsage policyQualifierInfo policyInformation certificatePolicies accessDescription
     authorityInfoAccess distributionPointName distributionPoint cRLDistributionPoints ocspNoCheck
 forms-right = refl
 
-fields-right : said slotsOf Slots.done slots ≡ slotRows
+fields-right : rowsSay fieldsOf Slots.done slots ≡ slotRows
 unfolding slots slotRows types judged formAt algorithmIdentifier attributeTypeAndValue relativeDistinguishedName name time validity
     subjectPublicKeyInfo extension extensions version tbsCertificate certificate otherName generalName generalNames authorityKeyIdentifier
     basicConstraints subjectKeyIdentifier keyUsage extKeyUsage policyQualifierInfo policyInformation certificatePolicies accessDescription

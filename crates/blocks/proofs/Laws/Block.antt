@@ -11,7 +11,7 @@ use native.Mathlib.Omega.{arith}
 use lib.ListN.{length, getD, take, length-append}
 use lib.Seq.{take-at, getD-append-add}
 use borrow.Author.Tests.{eq-eqb}
-use Rattle.blocks.specs.Block.{checkOf, sound, numberOf, lengthOf, partOf, isClear, dataOf, bodyOf, blockOf}
+use Rattle.blocks.specs.Block.{checkOf, sound, recordNumber, recordLength, partOf, isClear, dataOf, bodyOf, blockOf}
 use Rattle.octets.specs.Numbers.{pairAt, pairOf}
 use Rattle.blocks.proofs.Laws.Logic.{and-both}
 
@@ -52,11 +52,11 @@ module _ (number n j : ℕ) (d : List ℕ) (hnumber : number < 2 ^ 32) (hn : n <
   unfolding sound
   block-sound = and-both (eq-eqb _ _ block-length) (eq-eqb _ _ check-read)
 
-  pub block-number : numberOf (blockOf number n j d) ≡ number
+  pub block-number : recordNumber (blockOf number n j d) ≡ number
   unfolding blockOf
   block-number = omega arith
 
-  pub block-len : lengthOf (blockOf number n j d) ≡ n
+  pub block-len : recordLength (blockOf number n j d) ≡ n
   unfolding blockOf
   block-len = omega arith
 

@@ -8,7 +8,7 @@ use Prim.Native.Nat.{ℕ, _+_, _≤_}
 use native.Mathlib.Omega.{arith}
 use lib.ListN.{length, length-append}
 use lib.Seq.{take-at, drop-at}
-use Rattle.blocks.specs.Record.{recordOf, profileIn, certificateLength, certificateIn, issuerIn}
+use Rattle.blocks.specs.Record.{recordOf, profileIn, certificateLength, certificateOctets, issuerOctets}
 use Rattle.octets.specs.Numbers.{pairOf}
 
 module _ (profile : ℕ) (certificate issuer : List ℕ) where
@@ -25,10 +25,10 @@ module _ (profile : ℕ) (certificate issuer : List ℕ) where
     unfolding recordOf
     record-cut = omega arith
 
-    pub record-certificate : certificateIn (recordOf profile certificate issuer) ≡ certificate
-    unfolding certificateIn recordOf
+    pub record-certificate : certificateOctets (recordOf profile certificate issuer) ≡ certificate
+    unfolding certificateOctets recordOf
     record-certificate = rw record-cut (take-at certificate issuer (length certificate) refl)
 
-    pub record-issuer : issuerIn (recordOf profile certificate issuer) ≡ issuer
-    unfolding issuerIn recordOf
+    pub record-issuer : issuerOctets (recordOf profile certificate issuer) ≡ issuer
+    unfolding issuerOctets recordOf
     record-issuer = rw record-cut (drop-at (profile ∷ (pairOf (length certificate) ++ certificate)) issuer (3 + length certificate) (omega arith))

@@ -5,12 +5,12 @@ use mathlib.Core.Path.{_≡_, _∙_}
 use mathlib.Core.List.{List}
 use Prim.Native.Nat.{ℕ}
 use lib.ListN.{length}
+use Rattle.certificate.specs.Fields.{wholeOf, tbsOf, outerOf, versionIn, serialIn, innerIn, issuerIn, periodIn, subjectIn, keyIn, listAfter, extensionListIn, notBeforeIn, notAfterIn, validityOf, certificateOf}
+use Rattle.certificate.specs.declared.fields.Certificate.{Certificate}
 use Rattle.der.specs.Header.{headOf}
 use Rattle.der.specs.declared.header.Head.{Head}
 use Rattle.times.specs.declared.validity.Validity.{Validity}
 use Rattle.der.specs.Members.{firstIn, after, past}
-use Rattle.certificate.specs.Fields.{wholeOf, tbsOf, outerOf, versionIn, serialIn, innerIn, issuerIn, periodIn, subjectIn, keyIn, listAfter, extensionsIn, notBeforeIn, notAfterIn, validityOf, certificateOf}
-use Rattle.certificate.specs.declared.fields.Certificate.{Certificate}
 
 -- ---- head after head
 
@@ -59,8 +59,8 @@ module _ (s : List ℕ) (whole tbs version serial inner issuer period before the
   unfolding keyIn
   key-is = key-read ∙ (λ i. after s (subject-is i) (tbs-is i .end))
 
-  list-is : list ≡ extensionsIn s (tbsOf s)
-  unfolding extensionsIn
+  list-is : list ≡ extensionListIn s (tbsOf s)
+  unfolding extensionListIn
   list-is = list-read ∙ (λ i. listAfter s (key-is i) (tbs-is i .end))
 
   outer-is : outer ≡ outerOf s

@@ -5,34 +5,28 @@
 --     certificate-inside                                      the fields
 --     members-inside                                          the members of a list, so also the extensions
 --     first-inside, value-part-inside, key-inside             the first member, the value of an extension, the parts of a key
---     starts-below                                            no start of an extension is behind the end of the list
---     value-inside, issuer-inside                             a good value and the issuer's two parts
 -- Assumes nothing.
 use mathlib.Core.Path.{_≡_, refl}
 use mathlib.Core.List.{List}
-use mathlib.Core.Bool.{Bool, true, false, cond, _||_}
+use mathlib.Core.Bool.{Bool, true, false, cond}
 use Prim.Native.Nat.{ℕ, _≤_}
 use native.Mathlib.Nat.{le-trans}
 use native.Mathlib.Omega.{arith}
-use lib.ListN.{length, getD, List·getD-eq-default}
+use lib.ListN.{length}
 use lib.Dec.{ltb, eqb}
 use borrow.Author.Tests.{ltb-true, ltb-false}
+use Rattle.certificate.specs.Inside.{Between, LiesIn, FieldsInside, KeyInside, AllBetween, AllInside}
+use Rattle.certificate.specs.Inside.AllBetween.{none, more}
+use Rattle.certificate.specs.Fields.{wholeOf, tbsOf, outerOf, versionIn, serialIn, innerIn, issuerIn, periodIn, subjectIn, keyIn, listAfter, extensionListIn, notBeforeIn, notAfterIn, certificateOf}
+use Rattle.certificate.specs.Key.{keyOf}
+use Rattle.certificate.specs.Extensions.{extensionOf}
 use Rattle.der.specs.Header.{headOf, brokenHead, childrenOf}
 use Rattle.der.specs.Walking.{Chain}
 use Rattle.der.specs.Walking.Chain.{done, next}
 use Rattle.der.specs.declared.header.Head.{Head}
 use Rattle.der.proofs.Laws.Header.{head-start, head-forward, head-body, head-narrow}
 use Rattle.der.proofs.Laws.Walking.{children-chain}
-use Rattle.asn.specs.Answers.{valueOk}
-use Rattle.certificate.specs.Inside.{Between, Inside, FieldsInside, KeyInside, ValueInside, IssuerInside, AllBetween, AllInside}
-use Rattle.certificate.specs.Inside.AllBetween.{none, more}
-use Rattle.certificate.specs.Fields.{wholeOf, tbsOf, outerOf, versionIn, serialIn, innerIn, issuerIn, periodIn, subjectIn, keyIn, listAfter, extensionsIn, notBeforeIn, notAfterIn, certificateOf}
-use Rattle.certificate.specs.Key.{keyOf}
-use Rattle.certificate.specs.Extensions.{slotOf, extensionOf}
-use Rattle.certificate.specs.Slots.{orElse, startIn, startsOf, valueFrom, goodStart, valuesOf, holderAt, valueAt}
-use Rattle.certificate.specs.Issuer.{keyIdIn, issuerOf}
 use Rattle.der.specs.Members.{missing, firstIn, after, past, insideTag}
-use Rattle.certificate.proofs.Laws.Slots.{start-at, start-past, value-start, value-past}
 
 pub between-wider : (a b c d : ℕ) (h : Head) → a ≤ b → c ≤ d → Between b c h → Between a d h
 between-wider a b c d h l m k = record { starts = omega (arith, k .starts); holds = k .holds; forward = k .forward; ends = omega (arith, k .ends) }
@@ -90,7 +84,7 @@ module _ (s : List ℕ) (from to : ℕ) (h : Head) (k : Between from to h) where
 -- ---- the fields of a certificate
 
 module _ (s : List ℕ) where
-  whole-inside : Inside s (wholeOf s)
+  whole-inside : LiesIn s (wholeOf s)
   unfolding wholeOf
   whole-inside = between-head s 0 (length s) (omega arith)
 
@@ -99,15 +93,15 @@ module _ (s : List ℕ) where
   tbs-between = between-head s (wholeOf s .body) (wholeOf s .end) (whole-inside .forward)
 
   -- what lies in the outermost element lies in the octets
-  in-whole : (h : Head) → Between (wholeOf s .body) (wholeOf s .end) h → Inside s h
+  in-whole : (h : Head) → Between (wholeOf s .body) (wholeOf s .end) h → LiesIn s h
   in-whole h k = between-wider 0 (wholeOf s .body) (wholeOf s .end) (length s) h (omega arith) (whole-inside .ends) k
 
-  outer-inside : Inside s (outerOf s)
+  outer-inside : LiesIn s (outerOf s)
   unfolding outerOf
   outer-inside = in-whole _ (between-after s (wholeOf s .body) (wholeOf s .end) (tbsOf s) tbs-between)
 
   -- and so does what lies in the TBSCertificate
-  in-tbs : (h : Head) → Between (tbsOf s .body) (tbsOf s .end) h → Inside s h
+  in-tbs : (h : Head) → Between (tbsOf s .body) (tbsOf s .end) h → LiesIn s h
   in-tbs h k = let t = in-whole (tbsOf s) tbs-between in between-wider 0 (tbsOf s .body) (tbsOf s .end) (length s) h (omega arith) (t .ends) k
 
   version-between : Between (tbsOf s .body) (tbsOf s .end) (versionIn s (tbsOf s))
@@ -138,8 +132,8 @@ module _ (s : List ℕ) where
   unfolding keyIn
   key-between = between-after s _ _ _ subject-between
 
-  extensions-between : Between (tbsOf s .body) (tbsOf s .end) (extensionsIn s (tbsOf s))
-  unfolding extensionsIn listAfter
+  extensions-between : Between (tbsOf s .body) (tbsOf s .end) (extensionListIn s (tbsOf s))
+  unfolding extensionListIn listAfter
   extensions-between = between-tag s _ _ _ (between-past s _ _ _ (between-past s _ _ _ (between-after s _ _ _ key-between) 0x81) 0x82) 0xA3
 
   -- in the Validity
@@ -151,7 +145,7 @@ module _ (s : List ℕ) where
   unfolding notAfterIn
   later-between = between-after s _ _ _ before-between
 
-  in-period : (h : Head) → Between (periodIn s (tbsOf s) .body) (periodIn s (tbsOf s) .end) h → Inside s h
+  in-period : (h : Head) → Between (periodIn s (tbsOf s) .body) (periodIn s (tbsOf s) .end) h → LiesIn s h
   in-period h k = between-wider 0 _ _ (length s) h (omega arith) (in-tbs _ period-between .ends) k
 
   pub certificate-inside : FieldsInside s (certificateOf s)
@@ -179,28 +173,25 @@ chain-between to l done = none
 chain-between {s} {end} to l (next {at} {hs} h c) =
     more (between-wider 0 at end to (headOf s at end) (omega arith) l (between-head s at end (omega (arith, h)))) (chain-between to l c)
 
-module _ (s : List ℕ) (h : Head) (k : Inside s h) where
-  in-element : (x : Head) → Between (h .body) (h .end) x → Inside s x
+module _ (s : List ℕ) (h : Head) (k : LiesIn s h) where
+  in-element : (x : Head) → Between (h .body) (h .end) x → LiesIn s x
   in-element x b = between-wider 0 (h .body) (h .end) (length s) x (omega arith) (k .ends) b
 
   first-between : Between (h .body) (h .end) (firstIn s h)
   first-between = between-head s (h .body) (h .end) (k .forward)
 
-  pub first-inside : Inside s (firstIn s h)
+  pub first-inside : LiesIn s (firstIn s h)
   first-inside = in-element _ first-between
-
-  members-between : AllBetween 0 (h .end) (childrenOf s (h .body) (h .end))
-  members-between = chain-between (h .end) (omega arith) (children-chain s (h .body) (h .end) (k .forward))
 
   pub members-inside : AllInside s (childrenOf s (h .body) (h .end))
   members-inside = chain-between (length s) (k .ends) (children-chain s (h .body) (h .end) (k .forward))
 
-  pub value-part-inside : Inside s (extensionOf s h .value)
+  pub value-part-inside : LiesIn s (extensionOf s h .value)
   unfolding extensionOf
   value-part-inside = in-element _ (between-past s _ _ _ (between-after s _ _ _ first-between) 0x01)
 
 -- its members are in the AlgorithmIdentifier, which is in the SubjectPublicKeyInfo
-pub key-inside : (s : List ℕ) (key : Head) → Inside s key → KeyInside s (keyOf s key)
+pub key-inside : (s : List ℕ) (key : Head) → LiesIn s key → KeyInside s (keyOf s key)
 unfolding keyOf
 key-inside s key k =
     let a = first-inside s key k in
@@ -209,82 +200,3 @@ key-inside s key k =
       parameters = in-element s (firstIn s key) a _ (between-after s _ _ _ (first-between s (firstIn s key) a));
       bits = in-element s key k _ (between-after s _ _ _ (first-between s key k));
     }
-
--- ---- the values of the slots
-
-else-below : (a b to : ℕ) → a ≤ to → b ≤ to → orElse a b ≤ to
-else-below a b to l m = go (eqb a 0)
-  where
-    go : (t : Bool) → cond t b a ≤ to
-    go true = m
-    go false = l
-
-start-below : (s : List ℕ) (slot : ℕ) {to : ℕ} {hs : List Head} → AllBetween 0 to hs → startIn s hs slot ≤ to
-unfolding startIn
-start-below s slot none = omega arith
-start-below s slot {to} (more {h} {hs} k ks) = go (eqb (slotOf s h) slot) (start-below s slot ks)
-  where
-    go : (t : Bool) → startIn s hs slot ≤ to → cond t (orElse (h .at) (startIn s hs slot)) (startIn s hs slot) ≤ to
-    go true l = else-below (h .at) (startIn s hs slot) to (omega (arith, k .holds, k .forward, k .ends)) l
-    go false l = l
-
-good-below : (s : List ℕ) (end slot at : ℕ) → end ≤ length s → at ≤ end → goodStart s end slot at ≤ length s
-unfolding goodStart
-good-below s end slot at l m = go (eqb slot 0 || eqb at 0) (valueOk s slot (valueFrom s at end .body) (valueFrom s at end .end))
-  where
-    v : Inside s (valueFrom s at end)
-    v = value-part-inside s (headOf s at end) (between-wider 0 at end (length s) (headOf s at end) (omega arith) l (between-head s at end m))
-
-    go : (t u : Bool) → cond t 0 (cond u (valueFrom s at end .at) 0) ≤ length s
-    go true u = omega arith
-    go false true = omega (arith, v .holds, v .forward, v .ends)
-    go false false = omega arith
-
-holder-inside : (s : List ℕ) (at : ℕ) → at ≤ length s → Inside s (holderAt s at)
-holder-inside s at l = go (eqb at 0)
-  where
-    go : (t : Bool) → Inside s (cond t (missing (length s)) (headOf s at (length s)))
-    go true = between-missing 0 (length s) (omega arith)
-    go false = between-wider 0 at (length s) (length s) (headOf s at (length s)) (omega arith) (omega arith) (between-head s at (length s) l)
-
--- of an extension list
-module _ (s : List ℕ) (list : Head) (k : Inside s list) where
-  pub starts-below : (slot : ℕ) → getD (startsOf s (childrenOf s (list .body) (list .end))) slot 0 ≤ list .end
-  starts-below slot = go (ltb slot 11) refl
-    where
-      go : (t : Bool) → ltb slot 11 ≡ t → getD (startsOf s (childrenOf s (list .body) (list .end))) slot 0 ≤ list .end
-      go true e = rw (start-at s (childrenOf s (list .body) (list .end)) slot (ltb-true slot 11 e)) (start-below s slot (members-between s list k))
-      go false e =
-          rw (List·getD-eq-default (startsOf s (childrenOf s (list .body) (list .end))) 0
-          (start-past s (childrenOf s (list .body) (list .end)) slot (ltb-false slot 11 e))) (omega arith)
-
-  value-below : (slot : ℕ) → goodStart s (list .end) slot (startIn s (childrenOf s (list .body) (list .end)) slot) ≤ length s
-  value-below slot = good-below s (list .end) slot _ (k .ends) (start-below s slot (members-between s list k))
-
-  listed-below : (slot : ℕ) → getD (valuesOf s (startsOf s (childrenOf s (list .body) (list .end))) (list .end)) slot 0 ≤ length s
-  listed-below slot = go (ltb slot 11) refl
-    where
-      go : (t : Bool) → ltb slot 11 ≡ t → getD (valuesOf s (startsOf s (childrenOf s (list .body) (list .end))) (list .end)) slot 0 ≤ length s
-      go true e =
-          let h = ltb-true slot 11 e in rw (
-            value-start s (startsOf s (childrenOf s (list .body) (list .end))) (list .end) slot h,
-            start-at
-                s (childrenOf s (list .body) (list .end)) slot h,
-          ) (value-below slot)
-      go false e =
-          rw (List·getD-eq-default (valuesOf s (startsOf s (childrenOf s (list .body) (list .end))) (list .end)) 0
-          (value-past s (startsOf s (childrenOf s (list .body) (list .end))) (list .end) slot (ltb-false slot 11 e))) (omega arith)
-
-  pub value-inside : (slot : ℕ) → ValueInside s (valueAt s (valuesOf s (startsOf s (childrenOf s (list .body) (list .end))) (list .end)) slot)
-  unfolding valueAt
-  value-inside slot =
-      let h = holder-inside s _ (listed-below slot) in
-      record { holder = h; element = first-inside s _ h }
-
-  key-id-inside : Inside s (keyIdIn s list)
-  unfolding keyIdIn
-  key-id-inside = first-inside s _ (holder-inside s _ (value-below 3))
-
-pub issuer-inside : (i : List ℕ) → IssuerInside i (issuerOf i)
-unfolding issuerOf
-issuer-inside i = let c = certificate-inside i in record { name = c .subject; key = key-id-inside i (certificateOf i .extensions) (c .extensions) }

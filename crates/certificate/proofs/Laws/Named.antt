@@ -11,7 +11,7 @@ use native.Mathlib.Omega.{arith}
 use lib.ListN.{length}
 use lib.Dec.{ltb, eqb}
 use borrow.Author.Tests.{ltb-true, ltb-false, eq-eqb, ne-eqb, eqb-true}
-use Rattle.certificate.specs.Fields.{wholeOf, tbsOf, outerOf, versionIn, serialIn, innerIn, issuerIn, periodIn, subjectIn, keyIn, extendedAfter, listAfter, extensionsIn, notBeforeIn, notAfterIn, timeIs, timeIn, validityOf, certificateOf}
+use Rattle.certificate.specs.Fields.{wholeOf, tbsOf, outerOf, versionIn, serialIn, innerIn, issuerIn, periodIn, subjectIn, keyIn, extendedAfter, listAfter, extensionListIn, notBeforeIn, notAfterIn, timeIs, timeIn, validityOf, certificateOf}
 use Rattle.certificate.specs.Named.{VersionNamed, ExtensionsNamed, Named}
 use Rattle.certificate.specs.Named.VersionNamed.{unwritten, written}
 use Rattle.certificate.specs.Named.ExtensionsNamed.{without, listed}
@@ -255,8 +255,8 @@ module _ (s : List ℕ) (e : certificateVerdict s ≡ Fits) where
       (fields .issuer-id-fits)
       (stands-after s end _ _ _ key-stands))
 
-  list-named : ExtensionsNamed s (extensionsIn s (tbsOf s)) end (fields .extended)
-  unfolding extensionsIn listAfter
+  list-named : ExtensionsNamed s (extensionListIn s (tbsOf s)) end (fields .extended)
+  unfolding extensionListIn listAfter
   list-named = extensions-named s end _ (fields .extended) (fields .extended-fit) extended-stands
 
   serial-named : serialIn s (tbsOf s) ≡ fields .serial

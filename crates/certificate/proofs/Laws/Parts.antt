@@ -9,10 +9,18 @@ use mathlib.Core.List.{List, [], _∷_, _++_, append-nil}
 use Prim.Native.Nat.{ℕ}
 use native.Mathlib.Omega.{arith}
 use lib.Dec.{eqb}
+use Rattle.certificate.specs.Fields.{certificateOf}
+use Rattle.certificate.specs.Key.{keyOf}
+use Rattle.certificate.specs.Extensions.{extensionOf}
+use Rattle.certificate.specs.Named.{ExtensionsNamed, CriticalNamed, ExtensionNamed, AllNamed, ParametersNamed, KeyNamed}
+use Rattle.certificate.specs.Named.CriticalNamed.{unmarked, marked}
+use Rattle.certificate.specs.Named.AllNamed.{none, more}
+use Rattle.certificate.specs.Named.ExtensionsNamed.{without, listed}
+use Rattle.certificate.specs.Named.ParametersNamed.{lacking, given}
 use Rattle.der.specs.Header.{childrenOf}
 use Rattle.der.specs.declared.header.Head.{Head}
 use Rattle.der.proofs.Laws.Children.{children-done}
-use Rattle.asn.specs.Grammar.{Form, after, fits, follows}
+use Rattle.asn.specs.Grammar.{Form, unlessWrong, fits, follows}
 use Rattle.asn.specs.Grammar.Slots.{done, many}
 use Rattle.asn.specs.Answers.{certificateVerdict}
 use Rattle.asn.specs.Module.{booleanTrue, extension, extensions, algorithmIdentifier, subjectPublicKeyInfo}
@@ -22,14 +30,6 @@ use Rattle.asn.specs.declared.fitting.Verdict.{Verdict}
 use Rattle.asn.specs.declared.fitting.Verdict.the-variants.{Stranger, Fits, Wrong}
 use Rattle.asn.proofs.Laws.Fields.{parts-fit, one-fits, opt-fits, done-fits}
 use Rattle.der.specs.Members.{firstIn}
-use Rattle.certificate.specs.Fields.{certificateOf}
-use Rattle.certificate.specs.Key.{keyOf}
-use Rattle.certificate.specs.Extensions.{extensionOf}
-use Rattle.certificate.specs.Named.{ExtensionsNamed, CriticalNamed, ExtensionNamed, AllNamed, ParametersNamed, KeyNamed}
-use Rattle.certificate.specs.Named.CriticalNamed.{unmarked, marked}
-use Rattle.certificate.specs.Named.AllNamed.{none, more}
-use Rattle.certificate.specs.Named.ExtensionsNamed.{without, listed}
-use Rattle.certificate.specs.Named.ParametersNamed.{lacking, given}
 use Rattle.certificate.proofs.Laws.Named.{named, fit-tag, Stands, stands-here, stands-after, stands-optional, stands-unsound}
 
 -- ---- an Extension
@@ -80,7 +80,7 @@ unfolding follows
 all-named s o [] e = none
 all-named s o (h ∷ hs) e = go (fits extension s h) refl e (all-named s o hs)
   where
-    go : (v : Verdict) → fits extension s h ≡ v → after v (follows done s o (h ∷ hs)) (follows (many extension done) s o hs) ≡ Fits
+    go : (v : Verdict) → fits extension s h ≡ v → unlessWrong v (follows done s o (h ∷ hs)) (follows (many extension done) s o hs) ≡ Fits
         → (follows (many extension done) s o hs ≡ Fits → AllNamed s hs) → AllNamed s (h ∷ hs)
     go Stranger f e rest = let z : _≡_ {A = ℕ} 0 1 = cc in absurd (omega arith)
     go Fits f e rest = more (extension-named s h f) (rest e)

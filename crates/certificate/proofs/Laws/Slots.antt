@@ -1,30 +1,30 @@
--- A number for each slot.
---     by-slot-at, by-slot-is                 the number of a slot; a list of 11 numbers, each as it should be
---     slot-below                             a slot is below 11
---     filled-none, filled-next, filled-all   the starts of first extensions, filled in one extension after the other
---     start-at, start-past                   the start of the first extension in one slot, and past the slots
---     valued-none, valued-next, valued-all   numbers filled in slot by slot
---     value-start, value-past                the number of a slot, and past the slots
---     good-none, good-some                   the start of a value, by its tests
+-- A list that has an entry for each slot.
+--     by-slot-long, by-slot-at                its length, and the entry of a slot
+--     by-slot-set, by-slot-none, by-slot-same  one entry changed; all the same; two lists that agree
+--     filled-none, filled-next, filled-all     entries filled in slot by slot
+--     seen-none, seen-next, seen-all           the first extensions, and whether an identifier repeats, one extension after the other
 -- Assumes nothing.
-use mathlib.Core.Path.{_≡_, refl, sym, ap, _∙_}
-use mathlib.Core.List.{List, [], _∷_, map}
-use mathlib.Core.Bool.{Bool, true, false, cond, _||_}
+use mathlib.Core.Path.{_≡_, refl, sym, ap, subst, _∙_}
+use mathlib.Core.List.{List, [], _∷_, _++_, map, append-nil, append-assoc, List·Memᴰ, Memᴰ·append-left}
+use mathlib.Core.Bool.{Bool, true, false, cond, not, _&&_, _||_}
 use Prim.Native.Nat.{ℕ, zero, suc, _+_, _≤_, _<_}
 use native.Mathlib.Nat.{zero-add, add-zero}
 use native.Mathlib.Omega.{arith}
 use lib.ListN.{length, getD, set, replicate, length-map, length-set, length-replicate, getD-replicate}
 use lib.Seq.{getD-set-same, getD-set-other, ext-getD}
-use lib.Dec.{eqb}
-use borrow.Author.Tests.{eqb-true, eqb-false}
-use Rattle.octets.specs.Same.{sameBy, exactly}
+use lib.Dec.{ltb, eqb}
+use borrow.Author.Tests.{eqb-true, eqb-false, eq-eqb, ne-eqb, lt-ltb, le-ltb, ltb-true, ltb-false}
+use Rattle.certificate.specs.Extensions.{slotOf, seenBefore}
+use Rattle.certificate.specs.Slots.{numbersFrom, slotCount, bySlot, firstInSlot, hasRepeats, firstsOf}
+use Rattle.certificate.specs.declared.slots.Firsts.{Firsts}
 use Rattle.der.specs.Header.{headOf, childrenOf}
+use Rattle.der.specs.Members.{missing, membersIn}
+use Rattle.der.specs.Elements.{anyOf, firstOf, isEmpty}
 use Rattle.der.specs.declared.header.Head.{Head}
 use Rattle.der.proofs.Laws.Children.{children-done, children-next}
-use Rattle.asn.specs.Answers.{valueOk}
-use Rattle.certificate.specs.Extensions.{identifiers, positionFrom, slotFor, slotOf, extensionOf}
-use Rattle.certificate.specs.Slots.{numbersFrom, bySlot, orElse, startIn, startsOf, goodStart, valuesOf}
-use Rattle.certificate.specs.declared.extensions.Extension.{Extension}
+use Rattle.der.proofs.Laws.Any.{any-join}
+use Rattle.der.proofs.Laws.Searching.{Full, children-full, first-none, first-missing, first-join}
+use Rattle.certificate.proofs.Laws.Extensions.{slot-below, repeat-is}
 
 -- ---- a list by slots
 
@@ -33,167 +33,180 @@ unfolding numbersFrom
 numbers-long k zero = refl
 numbers-long k (suc n) = ap suc (numbers-long (k + 1) n)
 
-numbers-at : (f : ℕ → ℕ) (k n i : ℕ) → i < n → getD (map f (numbersFrom k n)) i 0 ≡ f (k + i)
-unfolding numbersFrom
-numbers-at f k zero i h = absurd (omega arith)
-numbers-at f k (suc n) zero h = ap f (sym (add-zero k))
-numbers-at f k (suc n) (suc i) h =
-    let e : k + 1 + i ≡ k + suc i = omega arith in
-    numbers-at f (k + 1) n i (omega arith) ∙ ap f e
+module _ {A : Type 0} where
+  numbers-at : (f : ℕ → A) (d : A) (k n i : ℕ) → i < n → getD (map f (numbersFrom k n)) i d ≡ f (k + i)
+  unfolding numbersFrom
+  numbers-at f d k zero i h = absurd (omega arith)
+  numbers-at f d k (suc n) zero h = ap f (sym (add-zero k))
+  numbers-at f d k (suc n) (suc i) h =
+      let e : k + 1 + i ≡ k + suc i = omega arith in
+      numbers-at f d (k + 1) n i (omega arith) ∙ ap f e
 
-pub by-slot-at : (f : ℕ → ℕ) (slot : ℕ) → slot < 11 → getD (bySlot f) slot 0 ≡ f slot
-by-slot-at f slot h = numbers-at f 0 11 slot h ∙ ap f (zero-add slot)
+  pub by-slot-at : (f : ℕ → A) (d : A) (slot : ℕ) → slot < slotCount → getD (bySlot f) slot d ≡ f slot
+  by-slot-at f d slot h = numbers-at f d 0 slotCount slot h ∙ ap f (zero-add slot)
 
-by-slot-long : (f : ℕ → ℕ) → length (bySlot f) ≡ 11
-by-slot-long f = length-map (numbersFrom 0 11) f ∙ numbers-long 0 11
+  pub by-slot-long : (f : ℕ → A) → length (bySlot f) ≡ slotCount
+  by-slot-long f = length-map (numbersFrom 0 slotCount) f ∙ numbers-long 0 slotCount
 
-pub by-slot-is : (f : ℕ → ℕ) (xs : List ℕ) → length xs ≡ 11 → ((slot : ℕ) → slot < 11 → getD xs slot 0 ≡ f slot) → xs ≡ bySlot f
-by-slot-is f xs l each =
-    ext-getD 0 xs (bySlot f) (l ∙ sym (by-slot-long f)) (λ i h. let below : i < 11 = omega (arith, l) in each i below ∙ sym
-    (by-slot-at f i below))
+  by-slot-is : (f : ℕ → A) (d : A) (xs : List A) → length xs ≡ slotCount → ((slot : ℕ) → slot < slotCount → getD xs slot d ≡ f slot) → xs ≡ bySlot f
+  by-slot-is f d xs l each =
+      ext-getD d xs (bySlot f) (l ∙ sym (by-slot-long f))
+      (λ i h. let below : i < slotCount = omega (arith, l) in each i below ∙ sym (by-slot-at f d i below))
 
--- ---- a slot is below 11
+  pub by-slot-none : (d : A) → replicate slotCount d ≡ bySlot (λ (slot : ℕ). d)
+  by-slot-none d = by-slot-is (λ (slot : ℕ). d) d (replicate slotCount d) (length-replicate {A = A} slotCount d) (λ slot h. getD-replicate slotCount slot d d h)
 
-position-below : (k : ℕ) (is : List (List ℕ)) (c : List ℕ) → 1 ≤ k → positionFrom k is c < k + length is
-position-below k [] c h = omega arith
-position-below k (i ∷ is) c h = go (positionFrom (k + 1) is c) (position-below (k + 1) is c (omega arith)) (sameBy exactly c i)
-  where
-    go : (r : ℕ) → r < k + 1 + length is → (b : Bool) → cond b k r < k + suc (length is)
-    go r l true = omega arith
-    go r l false = omega arith
+  pub by-slot-same : (d : A) (f g : ℕ → A) → ((slot : ℕ) → slot < slotCount → f slot ≡ g slot) → bySlot f ≡ bySlot g
+  by-slot-same d f g e = by-slot-is g d (bySlot f) (by-slot-long f) (λ slot h. by-slot-at f d slot h ∙ e slot h)
 
-pub slot-below : (c : List ℕ) → slotFor c < 11
-unfolding slotFor
-slot-below c = position-below 1 identifiers c (omega arith)
+  -- the entry of slot k becomes r
+  pub by-slot-set : (d : A) (f g : ℕ → A) (xs : List A) (k : ℕ) (r : A) → xs ≡ bySlot f → k < slotCount → r ≡ g k
+      → ((slot : ℕ) → (slot ≡ k → ⊥) → f slot ≡ g slot) → set xs k r ≡ bySlot g
+  by-slot-set d f g xs k r is l here other =
+      by-slot-is g d (set xs k r) (length-set xs k r ∙ long) (λ slot b. go slot b (eqb slot k) refl)
+    where
+      long : length xs ≡ slotCount
+      long = ap length is ∙ by-slot-long f
 
--- ---- the first extensions
+      go : (slot : ℕ) → slot < slotCount → (t : Bool) → eqb slot k ≡ t → getD (set xs k r) slot d ≡ g slot
+      go slot b true e =
+          let q = eqb-true slot k e in
+          ap (λ (n : ℕ). getD (set xs k r) n d) q ∙ (getD-set-same xs k r d (omega (arith, long)) ∙ (here ∙ ap g (sym q)))
+      go slot b false e =
+          let n = eqb-false slot k e in
+          getD-set-other xs k slot r d n ∙ (ap (λ (l : List A). getD l slot d) is ∙ (by-slot-at f d slot b ∙ other slot n))
 
-else-join : (a b c : ℕ) → orElse (orElse a b) c ≡ orElse a (orElse b c)
-else-join a b c = go (eqb a 0) refl
-  where
-    go : (t : Bool) → eqb a 0 ≡ t → cond (eqb (cond t b a) 0) c (cond t b a) ≡ cond t (orElse b c) a
-    go true e = refl
-    go false e = rw e
+  -- ---- slot after slot
 
--- numbers by slot, and extensions that are left, which together give the starts of all
-pub record Filled (s : List ℕ) (all : List Head) (starts : List ℕ) (rest : List Head) : Type 0 where
-  pub long : length starts ≡ 11
-  pub each : (slot : ℕ) → slot < 11 → startIn s all slot ≡ orElse (getD starts slot 0) (startIn s rest slot)
+  -- the slots below k have their entries, and the others d
+  abbrev pub below : (ℕ → A) → A → ℕ → ℕ → A
+  below f d k slot = cond (ltb slot k) (f slot) d
 
-pub filled-none : (s : List ℕ) (hs : List Head) → Filled s hs (replicate 11 0) hs
-filled-none s hs =
+  pub filled-none : (f : ℕ → A) (d : A) → replicate slotCount d ≡ bySlot (below f d 0)
+  filled-none f d = by-slot-none d ∙ by-slot-same d _ _ (λ slot h. sym (ap (λ (b : Bool). cond b (f slot) d) (le-ltb slot 0 (omega arith))))
+
+  pub filled-next : (f : ℕ → A) (d : A) (xs : List A) (k : ℕ) (r : A) → k < slotCount → r ≡ f k → xs ≡ bySlot (below f d k)
+      → set xs k r ≡ bySlot (below f d (k + 1))
+  filled-next f d xs k r l e is =
+      by-slot-set d (below f d k) (below f d (k + 1)) xs k r is l
+      (e ∙ sym (ap (λ (b : Bool). cond b (f k) d) (lt-ltb k (k + 1) (omega arith)))) (λ slot n. ap (λ (b : Bool). cond b (f slot) d) (same slot n))
+    where
+      same : (slot : ℕ) → (slot ≡ k → ⊥) → ltb slot k ≡ ltb slot (k + 1)
+      same slot n = go (ltb slot k) refl
+        where
+          go : (b : Bool) → ltb slot k ≡ b → b ≡ ltb slot (k + 1)
+          go true t = let m = ltb-true slot k t in sym (lt-ltb slot (k + 1) (omega (arith, m)))
+          go false t = let m = ltb-false slot k t in sym (le-ltb slot (k + 1) (omega (arith, m, n)))
+
+  pub filled-all : (f : ℕ → A) (d : A) (xs : List A) (k : ℕ) → slotCount ≤ k → xs ≡ bySlot (below f d k) → xs ≡ bySlot f
+  filled-all f d xs k l is = is ∙ by-slot-same d (below f d k) f (λ slot h. ap (λ (b : Bool). cond b (f slot) d) (lt-ltb slot k (omega (arith, l, h))))
+
+-- ---- extension after extension
+
+-- what stands for an entry past a list's end
+abbrev pub unread : Head
+unread = record { at = 0; tag = 0; body = 0; end = 0; sound = false }
+
+-- of the elements from place from to end those before place i, the first of them in each slot, and whether one of them repeats an identifier
+pub record Seen (s : List ℕ) (from end i : ℕ) (firsts : List Head) (repeated : Bool) : Type 0 where
+  pub past : List Head
+  pub all : childrenOf s from end ≡ past ++ childrenOf s i end
+  pub each : firsts ≡ bySlot (firstInSlot s end past)
+  pub any : repeated ≡ anyOf (seenBefore s from) past
+
+none-in : (s : List ℕ) (end : ℕ) (slot : ℕ) → missing end ≡ firstInSlot s end [] slot
+unfolding firstInSlot
+none-in s end slot = sym (first-none (λ (h : Head). eqb (slotOf s h) slot) end)
+
+pub seen-none : (s : List ℕ) (from end : ℕ) (none : Head) → none ≡ missing end → Seen s from end from (replicate slotCount none) false
+unfolding anyOf
+seen-none s from end none e =
     record {
-      long = length-replicate {A = ℕ} 11 0;
-      each = λ slot h. sym
-          (ap (λ (n : ℕ). orElse n (startIn s hs slot)) (getD-replicate 11 slot 0 0 h));
+      past = [];
+      all = refl;
+      each = by-slot-none none ∙ by-slot-same none _ _ (λ slot h. e ∙ none-in s end slot);
+      any = refl;
     }
 
-next-each : (s : List ℕ) (starts : List ℕ) (h : Head) (hs : List Head) (slot : ℕ) → slotOf s h < length starts
-    → orElse (getD starts slot 0) (startIn s (h ∷ hs) slot) ≡ orElse
-    (getD (set starts (slotOf s h) (orElse (getD starts (slotOf s h) 0) (h .at))) slot 0) (startIn s hs slot)
-unfolding startIn
-next-each s starts h hs slot l = go (eqb (slotOf s h) slot) refl
-  where
-    go : (t : Bool) → eqb (slotOf s h) slot ≡ t
-        → orElse (getD starts slot 0) (cond t (orElse (h .at) (startIn s hs slot)) (startIn s hs slot)) ≡ orElse
-        (getD (set starts (slotOf s h) (orElse (getD starts (slotOf s h) 0) (h .at))) slot 0) (startIn s hs slot)
-    go true e =
-        let here = eqb-true (slotOf s h) slot e in
-        sym (else-join (getD starts slot 0) (h .at) (startIn s hs slot))
-        ∙ ap (λ (n : ℕ). orElse n (startIn s hs slot)) (ap (λ (k : ℕ). orElse (getD starts k 0) (h .at)) (sym here) ∙
-        (sym (getD-set-same starts (slotOf s h) (orElse (getD starts (slotOf s h) 0) (h .at)) 0 l) ∙ ap
-        (λ (k : ℕ). getD (set starts (slotOf s h) (orElse (getD starts (slotOf s h) 0) (h .at))) k 0) here))
-    go false e =
-        ap (λ (n : ℕ). orElse n (startIn s hs slot)) (sym (getD-set-other starts (slotOf s h) slot
-        (orElse (getD starts (slotOf s h) 0) (h .at)) 0 (λ d. eqb-false (slotOf s h) slot e (sym d))))
+module _ (s : List ℕ) (end : ℕ) (past : List Head) (e : Head) (full : Full past) where
+  abbrev before : ℕ → Head
+  before = firstInSlot s end past
 
--- e is the extension at i, k its slot, and r what its slot then has
-pub filled-next : (s : List ℕ) (all : List Head) (starts : List ℕ) (i end : ℕ) (e : Head) (k r : ℕ) → i < end → e ≡ headOf s i end
-    → k ≡ slotOf s e → r ≡ orElse (getD starts k 0) (e .at) → Filled s all starts (childrenOf s i end)
-    → Filled s all (set starts k r) (childrenOf s (e .end) end)
-filled-next s all starts i end e k r h is slot-is r-is f =
-    record {
-      long = length-set starts k r ∙ f .long;
-      each = λ slot b. f .each slot b ∙ step slot;
-    }
-  where
-    step : (slot : ℕ)
-        → orElse (getD starts slot 0) (startIn s (childrenOf s i end) slot) ≡ orElse (getD (set starts k r) slot 0) (startIn s (childrenOf s (e .end) end) slot)
-    step slot =
-        let b : slotOf s e < length starts = rw (f .long) (slot-below _) in
-        rw (children-next s i end h, ← is, r-is, slot-is) (next-each s starts e (childrenOf s (e .end) end) slot b)
+  -- one more extension
+  added : (slot : ℕ) → firstInSlot s end (past ++ (e ∷ [])) slot ≡ cond (isEmpty (before slot)) (cond (eqb (slotOf s e) slot) e (missing end)) (before slot)
+  unfolding firstInSlot firstOf
+  added slot = first-join (λ (h : Head). eqb (slotOf s h) slot) end past end (e ∷ []) full
 
-else-none : (a : ℕ) → orElse a 0 ≡ a
-else-none a = go (eqb a 0) refl
-  where
-    go : (t : Bool) → eqb a 0 ≡ t → cond t 0 a ≡ a
-    go true e = sym (eqb-true a 0 e)
-    go false e = refl
+  added-here : firstInSlot s end (past ++ (e ∷ [])) (slotOf s e) ≡ cond (isEmpty (before (slotOf s e))) e (before (slotOf s e))
+  added-here =
+      added (slotOf s e) ∙ ap (λ (b : Bool). cond (isEmpty (before (slotOf s e))) (cond b e (missing end)) (before (slotOf s e)))
+      (eq-eqb (slotOf s e) (slotOf s e) refl)
 
-pub filled-all : (s : List ℕ) (all : List Head) (starts : List ℕ) (i end : ℕ) → end ≤ i → Filled s all starts (childrenOf s i end) → starts ≡ startsOf s all
-unfolding startsOf startIn
-filled-all s all starts i end h f =
-    by-slot-is (startIn s all) starts (f .long) (λ slot b. sym (f .each slot b ∙
-    (ap (λ (l : List Head). orElse (getD starts slot 0) (startIn s l slot)) (children-done s i end h) ∙ else-none (getD starts slot 0))))
+  none-before : (slot : ℕ) → isEmpty (before slot) ≡ true → before slot ≡ missing end
+  unfolding firstInSlot
+  none-before slot t = first-missing (λ (h : Head). eqb (slotOf s h) slot) end past full t
 
--- the first extension of one slot
-pub start-at : (s : List ℕ) (hs : List Head) (slot : ℕ) → slot < 11 → getD (startsOf s hs) slot 0 ≡ startIn s hs slot
-unfolding startsOf
-start-at s hs slot h = by-slot-at (startIn s hs) slot h
+  added-other : (slot : ℕ) → (slot ≡ slotOf s e → ⊥) → before slot ≡ firstInSlot s end (past ++ (e ∷ [])) slot
+  added-other slot n = sym (added slot ∙ (rw (ne-eqb (slotOf s e) slot (λ q. n (sym q))) (go (isEmpty (before slot)) refl)))
+    where
+      go : (b : Bool) → isEmpty (before slot) ≡ b → cond b (missing end) (before slot) ≡ before slot
+      go true t = sym (none-before slot t)
+      go false t = refl
 
-pub start-past : (s : List ℕ) (hs : List Head) (slot : ℕ) → 11 ≤ slot → length (startsOf s hs) ≤ slot
-unfolding startsOf
-start-past s hs slot h = rw (by-slot-long (startIn s hs)) h
+-- e is the extension at i, k its slot and first the first before it there, again whether it repeats, and r what its slot then has
+module _ (s : List ℕ) (from end i : ℕ) (firsts : List Head) (repeated : Bool) (seen : Seen s from end i firsts repeated)
+    (e first r d : Head) (k : ℕ) (again : Bool) (l : i < end) (is : e ≡ headOf s i end) (slot-is : k ≡ slotOf s e)
+    (first-is : first ≡ getD firsts k d) (r-is : r ≡ cond (isEmpty first) e first)
+    (again-is : again ≡ (not (isEmpty first) && (not (eqb k 0) || seenBefore s from e))) where
+  abbrev past : List Head
+  past = seen .past
 
--- ---- slot after slot
+  abbrev rest : List Head
+  rest = childrenOf s (e .end) end
 
--- the numbers of the slots below k are filled in
-pub record Valued (f : ℕ → ℕ) (values : List ℕ) (k : ℕ) : Type 0 where
-  pub long : length values ≡ 11
-  pub each : (slot : ℕ) → slot < k → getD values slot 0 ≡ f slot
+  all : childrenOf s from end ≡ past ++ (e ∷ rest)
+  all = seen .all ∙ ap (λ (l : List Head). past ++ l) (children-next s i end l ∙ (λ j. sym is j ∷ childrenOf s (sym is j .end) end))
 
-pub valued-none : (f : ℕ → ℕ) → Valued f (replicate 11 0) 0
-valued-none f = record { long = length-replicate {A = ℕ} 11 0; each = λ slot h. absurd (omega arith) }
+  full : Full past
+  full g m = children-full s from end g (subst (List·Memᴰ g) (sym all) (Memᴰ·append-left (e ∷ rest) m))
 
-pub valued-next : (f : ℕ → ℕ) (values : List ℕ) (k r : ℕ) → k < 11 → r ≡ f k → Valued f values k → Valued f (set values k r) (k + 1)
-valued-next f values k r h e v =
-    record {
-      long = length-set values k r ∙ v .long;
-      each = λ slot b. go slot b (eqb slot k) refl;
-    }
-  where
-    go : (slot : ℕ) → slot < k + 1 → (t : Bool) → eqb slot k ≡ t → getD (set values k r) slot 0 ≡ f slot
-    go slot b true d =
-        let here = eqb-true slot k d in
-        ap (λ (n : ℕ). getD (set values k r) n 0) here ∙ (getD-set-same values k r 0 (omega (arith, v .long)) ∙ (e ∙ ap f (sym here)))
-    go slot b false d =
-        let other = eqb-false slot k d in
-        getD-set-other values k slot r 0 other ∙ v .each slot (below slot k b other)
-      where
-        below : (a b : ℕ) → a < b + 1 → (a ≡ b → ⊥) → a < b
-        below a b l n = omega (arith, n)
+  low : k < slotCount
+  low = rw slot-is (slot-below _)
 
-pub valued-all : (f : ℕ → ℕ) (values : List ℕ) (k : ℕ) → 11 ≤ k → Valued f values k → values ≡ bySlot f
-valued-all f values k h v = by-slot-is f values (v .long) (λ slot b. v .each slot (omega arith))
+  here : first ≡ firstInSlot s end past (slotOf s e)
+  here =
+      first-is ∙ (ap (λ (l : List Head). getD l k d) (seen .each) ∙
+      (by-slot-at (firstInSlot s end past) d k low ∙ ap (firstInSlot s end past) slot-is))
 
--- ---- the start of a good value
+  again-seen : again ≡ seenBefore s from e
+  again-seen = again-is ∙ (rw (slot-is, here) (repeat-is s from end e past rest all))
 
-module _ (s starts : List ℕ) (end slot : ℕ) where
-  pub value-start : slot < 11 → getD (valuesOf s starts end) slot 0 ≡ goodStart s end slot (getD starts slot 0)
-  unfolding valuesOf
-  value-start h = by-slot-at (λ (k : ℕ). goodStart s end k (getD starts k 0)) slot h
+  or-false : (b : Bool) → (b || false) ≡ b
+  or-false true = refl
+  or-false false = refl
 
-  pub value-past : 11 ≤ slot → length (valuesOf s starts end) ≤ slot
-  unfolding valuesOf
-  value-past h = rw (by-slot-long (λ (k : ℕ). goodStart s end k (getD starts k 0))) h
+  last : anyOf (seenBefore s from) (e ∷ []) ≡ seenBefore s from e
+  unfolding anyOf
+  last = or-false (seenBefore s from e)
 
-module _ (s : List ℕ) (end slot at : ℕ) where
-  pub good-none : (eqb slot 0 || eqb at 0) ≡ true → 0 ≡ goodStart s end slot at
-  unfolding goodStart
-  good-none t = rw t
+  pub seen-next : Seen s from end (e .end) (set firsts k r) (repeated || again)
+  seen-next =
+      record {
+        past = past ++ (e ∷ []);
+        all = all ∙ sym (append-assoc past (e ∷ []) rest);
+        each =
+            by-slot-set e (firstInSlot s end past) (firstInSlot s end (past ++ (e ∷ []))) firsts k r (seen .each) low
+            (r-is ∙ (rw (slot-is, here) (sym (added-here s end past e full))))
+            (λ slot n. added-other s end past e full slot (λ q. n (q ∙ sym slot-is)));
+        any = (λ j. seen .any j || (again-seen ∙ sym last) j) ∙ sym (any-join (seenBefore s from) past (e ∷ []));
+      }
 
-  -- good is whether the value of the extension h passes
-  pub good-some : (h : Head) (e : Extension) (good : Bool) → (eqb slot 0 || eqb at 0) ≡ false → h ≡ headOf s at end → e ≡ extensionOf s h
-      → good ≡ valueOk s slot (e .value .body) (e .value .end) → cond good (e .value .at) 0 ≡ goodStart s end slot at
-  unfolding goodStart
-  good-some h e good t p q g = rw (t, g, q, p)
+pub seen-all : (s : List ℕ) (list : Head) (i : ℕ) (firsts : List Head) (repeated : Bool) → list .end ≤ i
+    → Seen s (list .body) (list .end) i firsts repeated → _≡_ {A = Firsts} (record { each = firsts; repeated = repeated }) (firstsOf s list)
+unfolding firstsOf hasRepeats
+seen-all s list i firsts repeated l seen =
+    let none-left = ap (λ (l : List Head). seen .past ++ l) (children-done s i (list .end) l) in
+    let all : seen .past ≡ membersIn s list = sym (seen .all ∙ (none-left ∙ append-nil (seen .past))) in
+    let each : firsts ≡ bySlot (firstInSlot s (list .end) (membersIn s list)) = seen .each ∙ ap (λ (l : List Head). bySlot (firstInSlot s (list .end) l)) all in
+    let any : repeated ≡ anyOf (seenBefore s (list .body)) (membersIn s list) = seen .any ∙ ap (anyOf (seenBefore s (list .body))) all in
+    λ j. record { each = each j; repeated = any j }

@@ -9,6 +9,8 @@
 --     head-body                          its contents start after it does, and no later than it ends
 --     head-inside                        a sound one's contents start two octets later at least, and end where it ends
 --     head-constructed                   one whose tag says constructed is sound
+--     head-held                          one that holds something is sound
+--     head-inner                         it is the same in a part of its container that has room for it
 --     head-two                           in a side of less than 65,536 octets no length takes over two octets
 -- Assumes nothing.
 use mathlib.Core.Path.{_≡_, refl, sym, ap, _∙_}
@@ -22,6 +24,7 @@ use lib.Dec.{ltb, leb, eqb}
 use borrow.Author.Tests.{lt-ltb, le-ltb, le-leb, lt-leb, leb-true, leb-false, eqb-false, not-true}
 use Rattle.der.specs.Contents.{constructed}
 use Rattle.der.specs.Header.{tagOk, lengthOf, longOk, lengthOk, headerSize, wholeHead, brokenHead, headIf, lengthBy, headOf}
+use Rattle.der.specs.declared.header.Head.{Head}
 use Rattle.octets.specs.Octets.{octetAt, octetsFrom}
 use Rattle.octets.specs.Numbers.{numberOf, largest}
 use Rattle.octets.proofs.Laws.Tests.{and-l, and-r, leb-same}
@@ -194,6 +197,49 @@ long-length s at e h =
     let high = not-true (eqb (octetAt s (at + 2)) 0) (and-l (not (eqb (octetAt s (at + 2)) 0)) (leb 128 len)
     (and-r (not (eqb (octetAt s (at + 1)) 128) && not (eqb (octetAt s (at + 1)) 255)) least whole)) in
     rw far (number-long s (at + 2) (octetAt s (at + 1) - 128) (eqb-false (octetAt s (at + 2)) 0 high) (omega arith))
+
+-- ---- in a part of its container
+
+-- the tests that a header passes, in a container that ends at end
+abbrev passed : List ℕ → ℕ → ℕ → Bool
+passed s at end = (leb end (length s) && lengthOk s at) && (tagOk (octetAt s at) && leb (at + (headerSize s at + lengthOf s at)) end)
+
+module _ (s : List ℕ) (at end : ℕ) where
+  abbrev whole : Head
+  whole = wholeHead at (octetAt s at) (headerSize s at) (lengthOf s at)
+
+  pub head-held : headOf s at end .body < headOf s at end .end → headOf s at end .sound ≡ true
+  unfolding headOf
+  head-held = go (passed s at end)
+    where
+      go : (b : Bool) → cond b whole (brokenHead at end) .body < cond b whole (brokenHead at end) .end → cond b whole (brokenHead at end) .sound ≡ true
+      go true h = refl
+      go false h = absurd (omega (arith, h))
+
+  passed-inner : (to : ℕ) → passed s at end ≡ true → at + (headerSize s at + lengthOf s at) ≤ to → to ≤ end → passed s at to ≡ true
+  passed-inner to e l m =
+      let size = at + (headerSize s at + lengthOf s at) in
+      let front = and-l (leb end (length s) && lengthOk s at) (tagOk (octetAt s at) && leb size end) e in
+      let back = and-r (leb end (length s) && lengthOk s at) (tagOk (octetAt s at) && leb size end) e in
+      let within = leb-true end (length s) (and-l (leb end (length s)) (lengthOk s at) front) in
+      rw (
+        le-leb to (length s) (omega (arith, m, within)),
+        and-r (leb end (length s)) (lengthOk s at) front,
+        and-l (tagOk (octetAt s at)) (leb size end) back,
+        le-leb size to l,
+      )
+
+  -- one that is not sound ends where its container does
+  pub head-inner : (to : ℕ) → headOf s at end .end ≤ to → to ≤ end → headOf s at to ≡ headOf s at end
+  unfolding headOf
+  head-inner to l m = go (passed s at end) refl l
+    where
+      go : (b : Bool) → passed s at end ≡ b → cond b whole (brokenHead at end) .end ≤ to
+          → cond (passed s at to) whole (brokenHead at to) ≡ cond b whole (brokenHead at end)
+      go true e l = ap (λ (b : Bool). cond b whole (brokenHead at to)) (passed-inner to e l m)
+      go false e l =
+          let q : to ≡ end = omega (arith, l, m) in
+          ap (λ (n : ℕ). cond (passed s at n) whole (brokenHead at n)) q ∙ ap (λ (b : Bool). cond b whole (brokenHead at end)) e
 
 pub head-two : (s : List ℕ) (at end : ℕ) → length s < 65536 → headOf s at end .sound ≡ true → octetAt s (at + 1) < 131
 unfolding headOf

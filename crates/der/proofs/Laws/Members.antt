@@ -1,10 +1,11 @@
 -- The members of an element, from the front.
 --     children-first      the first of elements, and those after it
+--     children-before     the elements before one of them
 --     second-is           the second member of an element that has two or more
 --     second-none         behind a single one there is none
 -- Assumes nothing.
 use mathlib.Core.Path.{_≡_, refl, sym, ap, _∙_}
-use mathlib.Core.List.{List, [], _∷_}
+use mathlib.Core.List.{List, [], _∷_, _++_}
 use mathlib.Core.Bool.{Bool, true, false}
 use Prim.Native.Nat.{ℕ, _≤_, _<_}
 use native.Mathlib.Omega.{arith}
@@ -13,7 +14,7 @@ use borrow.Author.Tests.{ltb-true, ltb-false}
 use Rattle.der.specs.Header.{headOf, childrenOf}
 use Rattle.der.specs.Members.{missing, membersIn, secondIn}
 use Rattle.der.specs.declared.header.Head.{Head}
-use Rattle.der.proofs.Laws.Header.{head-forward, head-narrow}
+use Rattle.der.proofs.Laws.Header.{head-start, head-forward, head-narrow, head-inner}
 use Rattle.der.proofs.Laws.Children.{children-done, children-next}
 
 pub record First (s : List ℕ) (at end : ℕ) (h : Head) (hs : List Head) : Type 0 where
@@ -32,6 +33,29 @@ children-first s at end h hs e = go (ltb at end) refl
         let k : _≡_ {A = List Head} [] (h ∷ hs) = sym (children-done s at end (ltb-false at end l)) ∙ e in
         let z : _≡_ {A = ℕ} 0 1 = cc k in
         absurd (omega arith)
+
+-- the elements from place at on that start before h are xs
+pub record Earlier (s : List ℕ) (at end : ℕ) (h : Head) (xs : List Head) : Type 0 where
+  pub low : at ≤ h .at
+  pub high : h .at < end
+  pub is : childrenOf s at (h .at) ≡ xs
+
+pub children-before : (s : List ℕ) (end : ℕ) (h : Head) (ys xs : List Head) (at : ℕ) → childrenOf s at end ≡ xs ++ (h ∷ ys) → Earlier s at end h xs
+children-before s end h ys [] at e =
+    let f = children-first s at end h ys e in
+    let here : h .at ≡ at = ap (λ (y : Head). y .at) (sym (f .is)) ∙ head-start s at end in
+    record { low = omega (arith, here); high = omega (arith, here, f .some); is = children-done s at (h .at) (omega (arith, here)) }
+children-before s end h ys (x ∷ xs) at e =
+    let f = children-first s at end x (xs ++ (h ∷ ys)) e in
+    let r = children-before s end h ys xs (headOf s at end .end) (f .rest) in
+    let forward = head-forward s at end (f .some) in
+    let high = r .high in
+    let same : headOf s at (h .at) ≡ headOf s at end = head-inner s at end (h .at) (r .low) (omega (arith, high)) in
+    record {
+      low = omega (arith, r .low, forward .0);
+      high = high;
+      is = children-next s at (h .at) (omega (arith, r .low, forward .0)) ∙ (λ i. (same ∙ f .is) i ∷ ((λ j. childrenOf s (same j .end) (h .at)) ∙ r .is) i);
+    }
 
 -- where no element is left
 at-end : (s : List ℕ) (i end : ℕ) → childrenOf s i end ≡ [] → i ≤ end → headOf s i end ≡ missing end

@@ -3,7 +3,7 @@
 --     le-below, le-above, le-same    by the kth octets x and y
 --     ascend-begins, ascend-done, ascend-next, ascend-bad      the members from i on, where x is the one before
 -- Assumes nothing.
-use mathlib.Core.Path.{_≡_, refl}
+use mathlib.Core.Path.{_≡_}
 use mathlib.Core.List.{List, map}
 use mathlib.Core.Bool.{Bool, true, false, not, _&&_, _||_}
 use Prim.Native.Nat.{ℕ, _+_, _-_, _≤_, _<_}

@@ -9,7 +9,7 @@ use native.Mathlib.Omega.{arith}
 use lib.Dec.{eqb}
 use Rattle.der.specs.Header.{headOf}
 use Rattle.der.specs.Elements.{Node, elementsOf}
-use Rattle.der.specs.Soundness.{faulty, unordered, Found, first, judge, soundness, stretchSoundness, refusalPlace}
+use Rattle.der.specs.Soundness.{faulty, unordered, Found, first, judge, soundness, stretchSoundness, soundnessPlace}
 use Rattle.der.specs.Soundness.Found.{nothing, found}
 use Rattle.der.specs.Walking.{Rising, startOf}
 use Rattle.der.specs.Walking.Rising.{more}
@@ -30,21 +30,21 @@ first-below test (n ∷ ns) {to = to} (more l h r) = go (test n) (first-below te
     go true k = h
     go false k = k
 
-judge-below : (to : ℕ) (fault set : Found) → 0 < to → Below to fault → Below to set → refusalPlace (judge fault set) < to
+judge-below : (to : ℕ) (fault set : Found) → 0 < to → Below to fault → Below to set → soundnessPlace (judge fault set) < to
 judge-below to (found p) set l f g = f
 judge-below to nothing (found p) l f g = g
 judge-below to nothing nothing l f g = l
 
-soundness-below : (s : List ℕ) (ns : List Node) {from to : ℕ} → 0 < to → Rising from to (map startOf ns) → refusalPlace (soundness s ns) < to
+soundness-below : (s : List ℕ) (ns : List Node) {from to : ℕ} → 0 < to → Rising from to (map startOf ns) → soundnessPlace (soundness s ns) < to
 unfolding soundness
 soundness-below s ns {to = to} l r =
     judge-below to (first (faulty s) ns) (first (unordered s) ns) l (first-below (faulty s) ns r) (first-below (unordered s) ns r)
 
-pub fault-inside : (s : List ℕ) (at end : ℕ) → at < end → refusalPlace (stretchSoundness s at end) < end
+pub fault-inside : (s : List ℕ) (at end : ℕ) → at < end → soundnessPlace (stretchSoundness s at end) < end
 unfolding stretchSoundness
 fault-inside s at end l = go (eqb (headOf s at end .end) end)
   where
-    go : (b : Bool) → refusalPlace (cond b (soundness s (elementsOf s 16 (headOf s at end))) (Unsound at)) < end
+    go : (b : Bool) → soundnessPlace (cond b (soundness s (elementsOf s 16 (headOf s at end))) (Unsound at)) < end
     go true =
         let f = head-forward s at end l in
         lt-of-lt-of-le (soundness-below s (elementsOf s 16 (headOf s at end)) (omega arith) (elements-rise s 16 at end l)) (f .1)

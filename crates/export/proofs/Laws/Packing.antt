@@ -5,14 +5,14 @@
 use mathlib.Core.Path.{_≡_}
 use Prim.Native.Nat.{ℕ, _+_, _*_, _^_, _≤_}
 use native.Mathlib.Omega.{arith}
-use Rattle.lint.specs.Refusals.{numberOf, sideNumber, sideOf, placeOf}
+use Rattle.lint.specs.Refusals.{refusalNumber, sideNumber, sideOf, placeOf}
 use Rattle.lint.specs.declared.refusals.Side.{Side}
 use Rattle.lint.specs.declared.refusals.Side.the-variants.{Certificate, Issuer}
 use Rattle.lint.specs.declared.refusals.Refusal.{Refusal}
 use Rattle.lint.specs.declared.refusals.Refusal.the-variants.{CertificateLength, IssuerLength, UnknownProfile, Unsound, Unordered, NotCertificate, NoRoom, NoNumber}
 use Rattle.export.specs.Packing.{packedRefusal}
 
-pub number-small : (r : Refusal) → numberOf r ≤ 8
+pub number-small : (r : Refusal) → refusalNumber r ≤ 8
 number-small CertificateLength = omega arith
 number-small IssuerLength = omega arith
 number-small UnknownProfile = omega arith
@@ -36,7 +36,7 @@ side-small (NotCertificate side place) = side-number-small side
 side-small NoRoom = omega arith
 side-small NoNumber = omega arith
 
-pub packed-by : (r : Refusal) (number side place : ℕ) → number ≡ numberOf r → side ≡ sideOf r → place ≡ placeOf r
+pub packed-by : (r : Refusal) (number side place : ℕ) → number ≡ refusalNumber r → side ≡ sideOf r → place ≡ placeOf r
     → 2 ^ 63 + number * 2 ^ 32 + side * 2 ^ 16 + place ≡ packedRefusal r
 unfolding packedRefusal
 packed-by r number side place n s p = rw (n, s, p)

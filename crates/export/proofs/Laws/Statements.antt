@@ -9,15 +9,15 @@ use Prim.Native.Nat.{ℕ, _+_, _*_, _^_, _/_, _%_, _<_}
 use native.Mathlib.Omega.{arith}
 use lib.ListN.{length}
 use borrow.Author.Tests.{le-leb, lt-leb}
-use Rattle.lint.specs.Refusals.{numberOf, sideOf, placeOf}
+use Rattle.lint.specs.Refusals.{refusalNumber, sideOf, placeOf}
 use Rattle.lint.specs.Answers.{answerOf}
 use Rattle.lint.specs.declared.refusals.Refusal.{Refusal}
 use Rattle.lint.specs.declared.linting.Answer as Linting
 use Rattle.lint.specs.declared.linting.Answer.the-variants as Linted
 use Rattle.lint.proofs.Laws.Bounds.{refusal-low, count-fits}
 use Rattle.writer.specs.Answers.{writeAnswer}
-use Rattle.writer.specs.declared.writing.Answer as Writing
-use Rattle.writer.specs.declared.writing.Answer.the-variants as Written
+use Rattle.writer.specs.declared.writing.Placing as Writing
+use Rattle.writer.specs.declared.writing.Placing.the-variants as Written
 use Rattle.writer.proofs.Laws.Answers.{taken-only, refused-nowhere}
 use Rattle.export.specs.Packing.{packedRefusal, packedReport, packedBlocks, numberIn, sideIn, ReadsCount, ReadsRefusal, ReadsReport, ReadsBlocks}
 use Rattle.export.proofs.Laws.Packing.{number-small, side-small}
@@ -43,13 +43,13 @@ module _ (number side place : ℕ) (n : number < 65536) (s : side < 65536) (p : 
 pub refusal-back : (r : Refusal) → placeOf r < 65536 → ReadsRefusal r (packedRefusal r)
 unfolding packedRefusal
 refusal-back r l =
-    let n : numberOf r < 65536 = omega (arith, number-small r) in
+    let n : refusalNumber r < 65536 = omega (arith, number-small r) in
     let s : sideOf r < 65536 = omega (arith, side-small r) in
     record {
-      refused = le-leb (2 ^ 63) (2 ^ 63 + numberOf r * 2 ^ 32 + sideOf r * 2 ^ 16 + placeOf r) (omega arith);
-      number = number-back (numberOf r) (sideOf r) (placeOf r) n s l;
-      side = side-back (numberOf r) (sideOf r) (placeOf r) n s l;
-      place = low (numberOf r) (sideOf r) (placeOf r) n s l;
+      refused = le-leb (2 ^ 63) (2 ^ 63 + refusalNumber r * 2 ^ 32 + sideOf r * 2 ^ 16 + placeOf r) (omega arith);
+      number = number-back (refusalNumber r) (sideOf r) (placeOf r) n s l;
+      side = side-back (refusalNumber r) (sideOf r) (placeOf r) n s l;
+      place = low (refusalNumber r) (sideOf r) (placeOf r) n s l;
     }
 
 -- ---- a count
@@ -71,6 +71,6 @@ pub write-back : (number profile : ℕ) (certificate issuer room : List ℕ) →
     → ReadsBlocks (writeAnswer number profile certificate issuer room) (packedBlocks (writeAnswer number profile certificate issuer room))
 write-back number profile certificate issuer room l = go (writeAnswer number profile certificate issuer room) refl
   where
-    go : (answer : Writing.Answer) → writeAnswer number profile certificate issuer room ≡ answer → ReadsBlocks answer (packedBlocks answer)
+    go : (answer : Writing.Placing) → writeAnswer number profile certificate issuer room ≡ answer → ReadsBlocks answer (packedBlocks answer)
     go (Written.Blocks count) e = count-back count (omega (arith, taken-only number profile certificate issuer room count e .fitting))
     go (Written.Refused r) e = refusal-back r (omega (arith, refused-nowhere number profile certificate issuer room r e))

@@ -5,10 +5,10 @@ use Rattle.export.proofs.Laws.Packing.{number-small, side-small, packed
 use Rattle.export.proofs.packed.Statement.{statement}
 use Rattle.export.proofs.packed.Tie as tie
 
-bounds : (c : tie.After-place-of) → (c .before .before .number-of .result ≤ 8) × (c .before .side-of .result ≤ 2) × (c .place-of .result < 65536)
+bounds : (c : tie.After-place-of) → (c .before .before .refusal-number .result ≤ 8) × (c .before .side-of .result ≤ 2) × (c .place-of .result < 65536)
 bounds c =
     let start = c .before .before .before in (
-      rw (c .before .before .number-of .ensures) (number-small (start .args .r)),
+      rw (c .before .before .refusal-number .ensures) (number-small (start .args .r)),
       rw (c .before .side-of .ensures)
           (side-small (start .args .r)),
       rw (c .place-of .ensures) (start .pre),
@@ -30,7 +30,7 @@ add-result-3 : tie.Need-add-result-3
 add-result-3 c = omega (arith, bounds c)
 
 returns : tie.Need-returns
-returns c = packed-by _ _ _ _ (c .before .before .number-of .ensures) (c .before .side-of .ensures) (c .place-of .ensures)
+returns c = packed-by _ _ _ _ (c .before .before .refusal-number .ensures) (c .before .side-of .ensures) (c .place-of .ensures)
 
 pub packed-spec : {M : Type 1} → statement M
 packed-spec =

@@ -19,7 +19,7 @@ use Rattle.asn.specs.Answers.{certificateVerdict}
 use Rattle.asn.specs.declared.fitting.Verdict.{Verdict}
 use Rattle.asn.specs.declared.fitting.Verdict.the-variants.{Stranger, Fits, Wrong}
 use Rattle.profiles.specs.declared.fields.Profile.{Profile}
-use Rattle.lint.specs.Judging.{lengthOk, byVerdict, bySoundness, sideJudgement, orElse, bothSides, admissionOf, onceAdmitted, judgementOf}
+use Rattle.lint.specs.Judging.{sideLengthOk, byVerdict, bySoundness, sideJudgement, orElse, bothSides, admissionOf, onceAdmitted, judgementOf}
 use Rattle.lint.specs.declared.refusals.Side.{Side}
 use Rattle.lint.specs.declared.refusals.Side.the-variants.{Certificate, Issuer}
 use Rattle.lint.specs.declared.refusals.Refusal.{Refusal}
@@ -37,17 +37,17 @@ passed : (b : Bool) (j : Judgement) (r : Refusal) (p : Profile) → cond b j (Re
 passed true j r p e = (refl, e)
 passed false j r p e = absurd (refused r p e)
 
-sized : (n : ℕ) → lengthOk n ≡ true → (1 ≤ n) × (n ≤ 8192)
+sized : (n : ℕ) → sideLengthOk n ≡ true → (1 ≤ n) × (n ≤ 8192)
 sized n t = (leb-true 1 n (and-l (leb 1 n) (leb n 8192) t), leb-true n 8192 (and-r (leb 1 n) (leb n 8192) t))
 
 module _ (certificate issuer profile : ℕ) (p : Profile) (e : admissionOf certificate issuer profile ≡ Accepted p) where
   pub admitted-certificate : (1 ≤ certificate) × (certificate ≤ 8192)
   unfolding admissionOf
-  admitted-certificate = sized certificate (passed (lengthOk certificate) _ _ p e .0)
+  admitted-certificate = sized certificate (passed (sideLengthOk certificate) _ _ p e .0)
 
   pub admitted-issuer : (1 ≤ issuer) × (issuer ≤ 8192)
   unfolding admissionOf
-  admitted-issuer = sized issuer (passed (lengthOk issuer) _ _ p (passed (lengthOk certificate) _ _ p e .1) .0)
+  admitted-issuer = sized issuer (passed (sideLengthOk issuer) _ _ p (passed (sideLengthOk certificate) _ _ p e .1) .0)
 
 verdict-fits : (q p : Profile) (side : Side) (v : Verdict) → byVerdict q side v ≡ Accepted p → v ≡ Fits
 verdict-fits q p side Fits e = refl

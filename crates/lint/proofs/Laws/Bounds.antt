@@ -12,11 +12,11 @@ use native.Mathlib.Nat.{lt-of-lt-of-le}
 use native.Mathlib.Omega.{arith}
 use lib.ListN.{length}
 use borrow.Author.Tests.{leb-true}
-use Rattle.der.specs.Soundness.{derSoundness, refusalPlace as faultPlace}
+use Rattle.der.specs.Soundness.{derSoundness, soundnessPlace}
 use Rattle.der.specs.declared.walk.Soundness.{Soundness}
 use Rattle.der.specs.declared.walk.Soundness.the-variants.{Sound, Unsound, Unordered}
 use Rattle.der.proofs.Laws.Places.{fault-inside}
-use Rattle.asn.specs.Answers.{certificateVerdict, refusalPlace as departurePlace}
+use Rattle.asn.specs.Answers.{certificateVerdict, verdictPlace}
 use Rattle.asn.specs.declared.fitting.Verdict.{Verdict}
 use Rattle.asn.specs.declared.fitting.Verdict.the-variants.{Stranger, Fits, Wrong}
 use Rattle.asn.proofs.Laws.Places.{departure-inside}
@@ -25,11 +25,11 @@ use Rattle.profiles.specs.declared.fields.Profile.{Profile}
 use Rattle.profiles.specs.declared.fields.Asked.{Asked}
 use Rattle.profiles.specs.declared.fields.Asked.the-variants.{For, Unknown}
 use Rattle.report.specs.Entries.{width}
-use Rattle.report.specs.Answers.{fits}
+use Rattle.report.specs.Answers.{enoughRoom}
 use Rattle.report.specs.declared.sink.Entry.{Entry}
 use Rattle.lint.specs.Refusals.{placeOf}
-use Rattle.lint.specs.Judging.{lengthOk, bySoundness, sideJudgement, orElse, bothSides, forProfile, admissionOf, onceAdmitted, judgementOf}
-use Rattle.lint.specs.Findings.{findings}
+use Rattle.lint.specs.Judging.{sideLengthOk, bySoundness, sideJudgement, orElse, bothSides, forProfile, admissionOf, onceAdmitted, judgementOf}
+use Rattle.rules.specs.Rules.{findings}
 use Rattle.lint.specs.Answers.{answerTo, answerBy, answerOf}
 use Rattle.lint.specs.Statements.{sideOctets, WithinSide}
 use Rattle.lint.specs.declared.refusals.Side.{Side}
@@ -54,7 +54,7 @@ NowhereBy (Judgements.Accepted p) = Unit {0}
 
 pub admission-nowhere : (certificate issuer profile : ℕ) (r : Refusal) → admissionOf certificate issuer profile ≡ Judgements.Refused r → Nowhere r
 unfolding admissionOf
-admission-nowhere certificate issuer profile r e = subst NowhereBy e (go (lengthOk certificate) (lengthOk issuer) (askedOf profile))
+admission-nowhere certificate issuer profile r e = subst NowhereBy e (go (sideLengthOk certificate) (sideLengthOk issuer) (askedOf profile))
   where
     go : (a b : Bool) (asked : Asked)
         → NowhereBy (cond a (cond b (forProfile asked) (Judgements.Refused Refusals.IssuerLength)) (Judgements.Refused Refusals.CertificateLength))
@@ -83,8 +83,8 @@ module _ (certificate issuer : List ℕ) where
       (fault-inside (sideOctets certificate issuer side) 0 (length (sideOctets certificate issuer side)) l)
       (departure-inside (sideOctets certificate issuer side) l)
     where
-      go : (d : Soundness) (v : Verdict) → faultPlace d < length (sideOctets certificate issuer side)
-          → departurePlace v < length (sideOctets certificate issuer side) → PlacedBy (bySoundness p side d v)
+      go : (d : Soundness) (v : Verdict) → soundnessPlace d < length (sideOctets certificate issuer side)
+          → verdictPlace v < length (sideOctets certificate issuer side) → PlacedBy (bySoundness p side d v)
       go Sound Fits f g = tt
       go Sound (Wrong place) f g = record { within = g; low = lt-of-lt-of-le g m }
       go Sound Stranger f g = record { within = g; low = lt-of-lt-of-le g m }
@@ -119,7 +119,7 @@ module _ (certificate issuer : List ℕ) where
   -- 7
   answer-placed : (es : List Entry) (room : List ℕ) → PlacedIn (answerTo es room)
   unfolding answerTo
-  answer-placed es room = go (fits es room)
+  answer-placed es room = go (enoughRoom es room)
     where
       go : (b : Bool) → PlacedIn (cond b (Report (length es)) (Refused Refusals.NoRoom))
       go true = tt
@@ -151,10 +151,10 @@ pub count-fits : (certificate issuer : List ℕ) (profile : ℕ) (room : List �
 unfolding answerOf answerTo
 count-fits certificate issuer profile room n e = subst (FitsIn (length room)) e (go (judgementOf certificate issuer profile))
   where
-    counted : (es : List Entry) (b : Bool) → fits es room ≡ b → FitsIn (length room) (cond b (Report (length es)) (Refused Refusals.NoRoom))
+    counted : (es : List Entry) (b : Bool) → enoughRoom es room ≡ b → FitsIn (length room) (cond b (Report (length es)) (Refused Refusals.NoRoom))
     counted es true t = leb-true _ _ t
     counted es false t = tt
 
     go : (j : Judgement) → FitsIn (length room) (answerBy j certificate issuer room)
     go (Judgements.Refused r) = tt
-    go (Judgements.Accepted p) = counted (findings p certificate issuer) (fits (findings p certificate issuer) room) refl
+    go (Judgements.Accepted p) = counted (findings p certificate issuer) (enoughRoom (findings p certificate issuer) room) refl

@@ -10,17 +10,17 @@ use mathlib.Core.Bool.{Bool, true, false, cond}
 use Prim.Native.Nat.{ℕ, _*_}
 use lib.Dec.{leb}
 use lib.ListN.{length}
-use Rattle.lint.specs.Findings.{findings}
+use Rattle.rules.specs.Rules.{findings}
 use Rattle.lint.specs.Judging.{judgementOf}
 use Rattle.lint.specs.Answers.{answerTo, answerBy, roomBy, answerOf, roomOf, reportOf}
 use Rattle.lint.specs.declared.refusals.Refusal.the-variants.{NoRoom}
 use Rattle.lint.specs.declared.judging.Judgement.{Judgement}
 use Rattle.lint.specs.declared.linting.Answer.the-variants.{Report, Refused}
 use Rattle.profiles.specs.declared.fields.Profile.{Profile}
-use Rattle.report.specs.Entries.{width, encode}
-use Rattle.report.specs.Answers.{fits, filled}
+use Rattle.report.specs.Entries.{width, reportOctets}
+use Rattle.report.specs.Answers.{enoughRoom, filled}
 use Rattle.report.specs.declared.sink.Entry.{Entry}
-use Rattle.report.proofs.Laws.Passes.{filled-long, filled-report, fits-room}
+use Rattle.report.proofs.Laws.Passes.{filled-long, filled-report, enough-by-length}
 use Rattle.lint.specs.declared.judging.Judgement.the-variants as Judgements
 
 module _ (certificate issuer room : List ℕ) where
@@ -45,28 +45,28 @@ module _ (certificate issuer room : List ℕ) where
   room-long profile = room-by (judgementOf certificate issuer profile)
 
   -- of findings
-  report-to : (es : List Entry) → fits es room ≡ true → reportOf (answerTo es room) (filled es room) ≡ encode es
+  report-to : (es : List Entry) → enoughRoom es room ≡ true → reportOf (answerTo es room) (filled es room) ≡ reportOctets es
   unfolding answerTo
   report-to es t = rw t (filled-report es room t)
 
-  report-none : (es : List Entry) → fits es room ≡ false → reportOf (answerTo es room) (filled es room) ≡ []
+  report-none : (es : List Entry) → enoughRoom es room ≡ false → reportOf (answerTo es room) (filled es room) ≡ []
   unfolding answerTo
   report-none es f = rw f
 
   pub report-is : (p : Profile) (profile : ℕ)
-      → judgementOf certificate issuer profile ≡ Judgements.Accepted p → fits (findings p certificate issuer) room ≡ true
-      → reportOf (answerOf certificate issuer profile room) (roomOf certificate issuer profile room) ≡ encode (findings p certificate issuer)
+      → judgementOf certificate issuer profile ≡ Judgements.Accepted p → enoughRoom (findings p certificate issuer) room ≡ true
+      → reportOf (answerOf certificate issuer profile room) (roomOf certificate issuer profile room) ≡ reportOctets (findings p certificate issuer)
   unfolding answerOf roomOf
   report-is p profile j t = rw j (report-to (findings p certificate issuer) t)
 
 module _ (certificate issuer room other : List ℕ) (e : length room ≡ length other) where
   report-of : (es : List Entry) → reportOf (answerTo es room) (filled es room) ≡ reportOf (answerTo es other) (filled es other)
-  report-of es = go (fits es room) refl
+  report-of es = go (enoughRoom es room) refl
     where
-      same : fits es other ≡ fits es room
-      same = sym (fits-room es room other e)
+      same : enoughRoom es other ≡ enoughRoom es room
+      same = sym (enough-by-length es room other e)
 
-      go : (b : Bool) → fits es room ≡ b → reportOf (answerTo es room) (filled es room) ≡ reportOf (answerTo es other) (filled es other)
+      go : (b : Bool) → enoughRoom es room ≡ b → reportOf (answerTo es room) (filled es room) ≡ reportOf (answerTo es other) (filled es other)
       go true t = report-to certificate issuer room es t ∙ sym (report-to certificate issuer other es (same ∙ t))
       go false f = report-none certificate issuer room es f ∙ sym (report-none certificate issuer other es (same ∙ f))
 

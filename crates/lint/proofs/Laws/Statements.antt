@@ -15,11 +15,12 @@ use Rattle.asn.specs.Answers.{certificateVerdict}
 use Rattle.profiles.specs.Fields.{askedOf}
 use Rattle.profiles.specs.declared.fields.Profile.{Profile}
 use Rattle.profiles.specs.declared.fields.Asked.the-variants.{For}
-use Rattle.report.specs.Answers.{fits, filled}
+use Rattle.report.specs.Answers.{enoughRoom, filled}
 use Rattle.report.specs.declared.sink.Entry.{Entry}
 use Rattle.report.proofs.Laws.Passes.{filled-short}
-use Rattle.lint.specs.Findings.{findingsFor, findings, knownOf}
-use Rattle.lint.specs.Judging.{lengthOk, bySoundness, sideJudgement, orElse, bothSides, forProfile, admissionOf, onceAdmitted, judgementOf}
+use Rattle.certificate.specs.Issuer.{knownOf}
+use Rattle.rules.specs.Rules.{findingsFor, findings}
+use Rattle.lint.specs.Judging.{sideLengthOk, bySoundness, sideJudgement, orElse, bothSides, forProfile, admissionOf, onceAdmitted, judgementOf}
 use Rattle.lint.specs.Answers.{answerTo, answerBy, roomBy, answerOf, roomOf, Answered}
 use Rattle.lint.specs.Statements.{Acceptable}
 use Rattle.lint.specs.declared.refusals.Side.{Side}
@@ -55,7 +56,7 @@ accepted p certificate issuer profile a b e =
 same-judgement : (certificate i j : List ℕ) (profile : ℕ) → Acceptable i → Acceptable j → judgementOf certificate i profile ≡ judgementOf certificate j profile
 unfolding judgementOf admissionOf bothSides
 same-judgement certificate i j profile a b =
-    rw (a .sized, b .sized) (go (cond (lengthOk (length certificate)) (forProfile (askedOf profile))
+    rw (a .sized, b .sized) (go (cond (sideLengthOk (length certificate)) (forProfile (askedOf profile))
     (Judgements.Refused Refusals.CertificateLength)))
   where
     go : (admission : Judgement) → onceAdmitted admission certificate i ≡ onceAdmitted admission certificate j
@@ -81,7 +82,7 @@ same-answer certificate i j profile room a b e =
 
 told-count : (es : List Entry) (room : List ℕ) (n : ℕ) → answerTo es room ≡ Report n → n ≡ length es
 unfolding answerTo
-told-count es room n = go (fits es room)
+told-count es room n = go (enoughRoom es room)
   where
     go : (b : Bool) → cond b (Report (length es)) (Refused Refusals.NoRoom) ≡ Report n → n ≡ length es
     go true e = cc
@@ -99,9 +100,9 @@ findings-counted p certificate issuer profile room n j e =
 
 refused-to : (es : List Entry) (room : List ℕ) (r : Refusal) → answerTo es room ≡ Refused r → filled es room ≡ room
 unfolding answerTo
-refused-to es room r = go (fits es room) refl
+refused-to es room r = go (enoughRoom es room) refl
   where
-    go : (b : Bool) → fits es room ≡ b → cond b (Report (length es)) (Refused Refusals.NoRoom) ≡ Refused r → filled es room ≡ room
+    go : (b : Bool) → enoughRoom es room ≡ b → cond b (Report (length es)) (Refused Refusals.NoRoom) ≡ Refused r → filled es room ≡ room
     go true f e = cc
     go false f e = filled-short es room f
 

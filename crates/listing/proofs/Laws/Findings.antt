@@ -9,8 +9,8 @@ use Prim.Native.Nat.{ℕ, suc, _+_, _≤_}
 use native.Mathlib.Numerals.{add-one}
 use native.Mathlib.Omega.{arith}
 use Rattle.listing.specs.Lines.{findingLine, recordLine}
-use Rattle.listing.specs.Listing.{findingLines, entriesOf, recordLines}
-use Rattle.texts.specs.Putting.{Put}
+use Rattle.listing.specs.Listing.{findingLines, reportedEntries, recordLines}
+use Rattle.texts.specs.Putting.{Spelled}
 use Rattle.report.specs.Entries.{entryOf, decode}
 use Rattle.report.specs.declared.sink.Entry.{Entry}
 use Rattle.lint.specs.declared.refusals.Refusal.{Refusal}
@@ -31,27 +31,27 @@ findings-next s k = rw (decode-next s k, lines-join (decode k s) (entryOf s k �
 
 -- ---- put one behind the other
 
-pub no-findings : (s : List ℕ) (n : ℕ) (out : List ℕ) → Put (findingLines (decode 0 s)) n out n out
+pub no-findings : (s : List ℕ) (n : ℕ) (out : List ℕ) → Spelled (findingLines (decode 0 s)) n out n out
 unfolding findingLines
 no-findings s n out = rw (decode-none s) (put-nothing n out)
 
 pub one-finding : (s : List ℕ) (k : ℕ) {n m r : ℕ} {x y z : List ℕ}
-    → Put (findingLines (decode k s)) n x m y → Put (findingLine (entryOf s k)) m y r z → Put (findingLines (decode (k + 1) s)) n x r z
+    → Spelled (findingLines (decode k s)) n x m y → Spelled (findingLine (entryOf s k)) m y r z → Spelled (findingLines (decode (k + 1) s)) n x r z
 one-finding s k p q = rw (add-one k, findings-next s k) (p ⨾ q)
 
-pub all-findings : (s : List ℕ) {k count n m : ℕ} {x y : List ℕ} → k ≤ count → count ≤ k → Put (findingLines (decode k s)) n x m y
-    → Put (findingLines (decode count s)) n x m y
+pub all-findings : (s : List ℕ) {k count n m : ℕ} {x y : List ℕ} → k ≤ count → count ≤ k → Spelled (findingLines (decode k s)) n x m y
+    → Spelled (findingLines (decode count s)) n x m y
 all-findings s {k} {count} {n} {m} {x} {y} h l p =
     let e : k ≡ count = omega arith in
-    subst (λ (i : ℕ). Put (findingLines (decode i s)) n x m y) e p
+    subst (λ (i : ℕ). Spelled (findingLines (decode i s)) n x m y) e p
 
 module _ (r : Record) (s : List ℕ) {n m : ℕ} {x y : List ℕ} where
   pub reported-lines : {count last : ℕ} {z : List ℕ} → r .answer ≡ Report count
-      → Put (recordLine r) n x m y → Put (findingLines (decode count s)) m y last z → Put (recordLines r s) n x last z
+      → Spelled (recordLine r) n x m y → Spelled (findingLines (decode count s)) m y last z → Spelled (recordLines r s) n x last z
   unfolding recordLines
   reported-lines {last = last} {z = z} e p q =
-      subst (λ (a : Answer). Put (recordLine r ++ findingLines (entriesOf a s)) n x last z) (sym e) (p ⨾ q)
+      subst (λ (a : Answer). Spelled (recordLine r ++ findingLines (reportedEntries a s)) n x last z) (sym e) (p ⨾ q)
 
-  pub refused-lines : {refusal : Refusal} → r .answer ≡ Refused refusal → Put (recordLine r) n x m y → Put (recordLines r s) n x m y
+  pub refused-lines : {refusal : Refusal} → r .answer ≡ Refused refusal → Spelled (recordLine r) n x m y → Spelled (recordLines r s) n x m y
   unfolding recordLines findingLines
-  refused-lines e p = subst (λ (a : Answer). Put (recordLine r ++ findingLines (entriesOf a s)) n x m y) (sym e) (p ⨾ put-nothing m y)
+  refused-lines e p = subst (λ (a : Answer). Spelled (recordLine r ++ findingLines (reportedEntries a s)) n x m y) (sym e) (p ⨾ put-nothing m y)

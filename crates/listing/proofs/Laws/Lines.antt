@@ -12,12 +12,12 @@ use native.Mathlib.Omega.{arith}
 use lib.ListN.{length, length-append}
 use lib.Dec.{ltb}
 use Rattle.listing.specs.Lines.{findingLine, refusalText, answerText, recordLine, lostLine, totalLine, tooLongLine}
-use Rattle.listing.specs.Listing.{findingLines, entriesOf, recordLines, itemLines}
+use Rattle.listing.specs.Listing.{findingLines, reportedEntries, recordLines, itemLines}
 use Rattle.texts.specs.Texts.{word, decimal}
 use Rattle.octets.specs.Octets.{Octets}
 use Rattle.report.specs.Entries.{width, entryOf, decode}
 use Rattle.report.specs.declared.sink.Entry.{Entry}
-use Rattle.lint.specs.Refusals.{numberOf, sideNumber, sideOf, placeOf}
+use Rattle.lint.specs.Refusals.{refusalNumber, sideNumber, sideOf, placeOf}
 use Rattle.lint.specs.Answers.{answerOf}
 use Rattle.lint.proofs.Laws.Bounds.{count-fits}
 use Rattle.lint.specs.declared.refusals.Side.{Side}
@@ -28,7 +28,7 @@ use Rattle.lint.specs.declared.linting.Answer.{Answer}
 use Rattle.lint.specs.declared.linting.Answer.the-variants.{Report, Refused}
 use Rattle.reader.specs.declared.finding.Loss.{Loss}
 use Rattle.reader.specs.declared.finding.Loss.the-variants.{Short, Unsound, Stray}
-use Rattle.blocks.specs.Record.{profileIn, certificateIn, issuerIn}
+use Rattle.blocks.specs.Record.{profileIn, certificateOctets, issuerOctets}
 use Rattle.reader.specs.Events.{Event, record-at, lost-at}
 use Rattle.reader.specs.Stepping.{itemOf, eventAt, itemAt}
 use Rattle.reader.specs.declared.stepping.Record.{Record}
@@ -63,7 +63,7 @@ too-long-long = refl
 
 -- ---- a record's line
 
-number-short : (r : Refusal) → numberOf r < 10
+number-short : (r : Refusal) → refusalNumber r < 10
 number-short CertificateLength = omega arith
 number-short IssuerLength = omega arith
 number-short UnknownProfile = omega arith
@@ -96,7 +96,7 @@ answer-long : (a : Answer) → numberIn a < 2 ^ 64 → length (answerText a) ≤
 unfolding refusalText word
 answer-long (Report count) h = simp length-append (omega (arith, wide-long count h))
 answer-long (Refused r) h =
-    let a = decimal-long (numberOf r) 1 (number-short r) (omega arith) in
+    let a = decimal-long (refusalNumber r) 1 (number-short r) (omega arith) in
     let b = decimal-long (sideOf r) 1 (side-short r) (omega arith) in
     simp length-append (omega (arith, a, b, wide-long (placeOf r) h))
 
@@ -132,7 +132,7 @@ Held (Items.Record r) = (r .number < 2 ^ 64) × (r .profile < 256) × (numberIn 
 Held (Items.Lost loss) = Unit {0}
 Held Items.End = Unit {0}
 
-entries-long : (a : Answer) (s : List ℕ) → Octets s → length (findingLines (entriesOf a s)) ≤ 30 * countOf a
+entries-long : (a : Answer) (s : List ℕ) → Octets s → length (findingLines (reportedEntries a s)) ≤ 30 * countOf a
 unfolding findingLines
 entries-long (Report count) s o = findings-long count s o
 entries-long (Refused r) s o = omega arith
@@ -143,7 +143,7 @@ unfolding recordLines
 item-long position (Items.Record r) s h k o =
     let line = record-long r (k .0) (k .1) (k .2) in
     let others = entries-long (r .answer) s o in
-    rw (length-append (recordLine r) (findingLines (entriesOf (r .answer) s))) (omega (arith, line, others))
+    rw (length-append (recordLine r) (findingLines (reportedEntries (r .answer) s))) (omega (arith, line, others))
 item-long position (Items.Lost loss) s h k o = omega (arith, lost-long position loss h)
 item-long position Items.End s h k o = omega arith
 
@@ -157,7 +157,7 @@ answer-fits certificate issuer profile room = go (answerOf certificate issuer pr
     go (Refused r) e = omega arith
 
 event-fits : (room : List ℕ) (e : Event) → width * countIn (itemOf room e) ≤ length room
-event-fits room (record-at position number p) = answer-fits (certificateIn p) (issuerIn p) (profileIn p) room
+event-fits room (record-at position number p) = answer-fits (certificateOctets p) (issuerOctets p) (profileIn p) room
 event-fits room (lost-at position loss) = omega arith
 
 pub item-fits : (deck : List ℕ) (position : ℕ) (room : List ℕ) → width * countIn (itemAt deck position room) ≤ length room

@@ -11,11 +11,11 @@ use Prim.Native.Nat.{ℕ, _≤_, _<_}
 use lib.ListN.{length, replicate, length-replicate}
 use borrow.Author.Tests.{le-leb, lt-leb}
 use Rattle.listing.specs.Lines.{recordLine, totalLine, tooLongLine}
-use Rattle.listing.specs.Listing.{findingLines, entriesOf, recordLines, itemLines, linesOf, listingOf, printed}
+use Rattle.listing.specs.Listing.{findingLines, reportedEntries, recordLines, itemLines, linesOf, listingOf, printed}
 use Rattle.report.specs.declared.sink.Entry.{Entry}
-use Rattle.report.specs.Answers.{fits}
+use Rattle.report.specs.Answers.{enoughRoom}
 use Rattle.profiles.specs.declared.fields.Profile.{Profile}
-use Rattle.lint.specs.Findings.{findings}
+use Rattle.rules.specs.Rules.{findings}
 use Rattle.lint.specs.Judging.{judgementOf}
 use Rattle.lint.specs.Answers.{answerTo, answerOf, roomOf, reportOf}
 use Rattle.lint.specs.declared.judging.Judgement.the-variants.{Accepted}
@@ -31,7 +31,7 @@ use Rattle.reader.proofs.Laws.Walking.{same-handed}
 use Rattle.report.proofs.Laws.Reading.{decode-take}
 use Rattle.reader.specs.declared.stepping.Item.the-variants as Items
 
-entries-room : (a : Answer) (room : List ℕ) → entriesOf a (reportOf a room) ≡ entriesOf a room
+entries-room : (a : Answer) (room : List ℕ) → reportedEntries a (reportOf a room) ≡ reportedEntries a room
 entries-room (Report count) room = decode-take count room
 entries-room (Refused r) room = refl
 
@@ -63,7 +63,7 @@ printed-too-long deck h = rw (lt-leb (length deck) 65536 h)
 -- ---- a record's findings
 
 module _ (p : Profile) (certificate issuer room : List ℕ) (profile : ℕ)
-    (j : judgementOf certificate issuer profile ≡ Accepted p) (f : fits (findings p certificate issuer) room ≡ true) where
-  pub found-entries : entriesOf (answerOf certificate issuer profile room) (roomOf certificate issuer profile room) ≡ findings p certificate issuer
+    (j : judgementOf certificate issuer profile ≡ Accepted p) (f : enoughRoom (findings p certificate issuer) room ≡ true) where
+  pub found-entries : reportedEntries (answerOf certificate issuer profile room) (roomOf certificate issuer profile room) ≡ findings p certificate issuer
   unfolding answerOf roomOf answerTo
   found-entries = rw (j, f) (findings-back p certificate issuer profile room j f)

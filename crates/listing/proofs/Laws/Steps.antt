@@ -15,7 +15,7 @@ use Rattle.listing.specs.Lines.{totalLine}
 use Rattle.listing.specs.Listing.{itemLines, linesOf, listingOf}
 use Rattle.listing.specs.Steps.{passedAt, Listed, steppedLines}
 use Rattle.listing.specs.declared.steps.Step.{Step}
-use Rattle.texts.specs.Putting.{Put}
+use Rattle.texts.specs.Putting.{Spelled}
 use Rattle.blocks.proofs.Laws.Logic.{below-or-not}
 use Rattle.reader.specs.Runs.{blocks}
 use Rattle.reader.specs.Finding.{foundAt, blocksIn}
@@ -31,13 +31,13 @@ use Rattle.reader.specs.declared.stepping.Item.the-variants as Items
 
 module _ {deck room out : List ℕ} {position n : ℕ} where
   pub step-listed : {item : Item} {end passed : ℕ} {left last : List ℕ} → Stepped deck position room item left
-      → Put (itemLines position item left) n out end last → passed ≡ itemBlocks item
+      → Spelled (itemLines position item left) n out end last → passed ≡ itemBlocks item
       → Listed deck position n room out (record { end = end; passed = passed }) left last
   step-listed {item} {end} {passed} {left} {last} s p b =
       record {
         lines =
-            subst (λ (x : Item). Put (itemLines position x (roomAt deck position room)) n out end last) (s .told)
-            (subst (λ (l : List ℕ). Put (itemLines position item l) n out end last) (s .bytes) p);
+            subst (λ (x : Item). Spelled (itemLines position x (roomAt deck position room)) n out end last) (s .told)
+            (subst (λ (l : List ℕ). Spelled (itemLines position item l) n out end last) (s .bytes) p);
         blocks = b ∙ ap itemBlocks (s .told);
         bytes = s .bytes;
       }

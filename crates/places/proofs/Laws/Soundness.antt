@@ -8,8 +8,8 @@ use mathlib.Core.Bool.{Bool, true, false, cond, _||_}
 use Prim.Native.Nat.{ℕ, _-_}
 use lib.Dec.{leb}
 use lib.ListN.{length}
-use Rattle.places.specs.Elements.{Element}
-use Rattle.places.specs.Elements.Element.{outermost, held, in-value, in-bits}
+use Rattle.facts.specs.Elements.{Element}
+use Rattle.facts.specs.Elements.Element.{outermost, held, in-value, in-bits}
 use Rattle.places.specs.Statement.{SoundElement}
 use Rattle.octets.proofs.Laws.Tests.{and-l}
 use Rattle.der.specs.Contents.{constructed, universalOk, contentsOf, elementOk}

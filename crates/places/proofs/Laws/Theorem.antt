@@ -7,15 +7,13 @@ use mathlib.Core.Bool.{Bool, true, false, cond}
 use Prim.Native.Nat.{ℕ}
 use native.Mathlib.Omega.{arith}
 use lib.ListN.{length}
-use Rattle.places.specs.Elements.{subjectKey}
 use Rattle.places.specs.Statement.{AtElements, Places}
-use Rattle.asn.specs.Answers.{certificateVerdict}
-use Rattle.asn.specs.declared.fitting.Verdict.the-variants.{Fits}
 use Rattle.profiles.specs.declared.fields.Profile.{Profile}
-use Rattle.report.specs.Answers.{fits, filled}
+use Rattle.report.specs.Answers.{enoughRoom, filled}
 use Rattle.report.specs.Entries.{decode}
 use Rattle.report.specs.declared.sink.Entry.{Entry}
-use Rattle.lint.specs.Findings.{Known, knownOf, allFindings, findingsFor, findings}
+use Rattle.rules.specs.Rules.{findings}
+use Rattle.rules.proofs.Laws.Findings.{findings-elements}
 use Rattle.lint.specs.Judging.{judgementOf}
 use Rattle.lint.specs.Answers.{answerTo, answerBy, roomBy, answerOf, roomOf}
 use Rattle.lint.specs.declared.refusals.Refusal.the-variants.{NoRoom}
@@ -24,35 +22,25 @@ use Rattle.lint.specs.declared.linting.Answer.the-variants.{Report, Refused}
 use Rattle.lint.proofs.Laws.Accepted.{accepted-fits}
 use Rattle.lint.proofs.Laws.Order.{findings-back}
 use Rattle.places.proofs.Laws.Soundness.{element-sound}
-use Rattle.places.proofs.Laws.Forms.{join-at}
-use Rattle.places.proofs.Laws.Fields.{fields-at}
-use Rattle.places.proofs.Laws.Key.{key-at}
-use Rattle.places.proofs.Laws.Subject.{subject-at}
-use Rattle.places.proofs.Laws.Extensions.{extensions-at}
-use Rattle.places.proofs.Laws.Values.{values-at}
+use Rattle.octets.specs.declared.places.Place.{Place}
 use Rattle.places.proofs.Laws.Accepted.{accepted-sound}
 use Rattle.lint.specs.declared.judging.Judgement.the-variants as Judgements
 
--- whatever is known of the issuer
-known-at : (p : Profile) (s : List ℕ) (k : Known) → certificateVerdict s ≡ Fits → AtElements s (findingsFor p s k)
-unfolding findingsFor allFindings
-known-at p s k e =
-    join-at (fields-at s e p (k .name))
-    (join-at (subject-at s e p _)
-    (join-at (key-at s e p) (join-at (extensions-at s e p) (values-at s e p (subjectKey s .kind) (k .key)))))
-
 module _ (s issuer : List ℕ) (profile : ℕ) where
   findings-at : (p : Profile) → judgementOf s issuer profile ≡ Judgements.Accepted p → AtElements s (findings p s issuer)
-  unfolding findings
-  findings-at p e = known-at p s (knownOf issuer) (accepted-fits s issuer profile p e)
+  findings-at p e =
+      record {
+        each = λ d m. let x = findings-elements p s issuer (accepted-fits s issuer profile p e) d m in
+            record { element = x .0; is = x .1; start = ap (λ (q : Place). q .start) (x .2); whole = ap (λ (q : Place). q .len) (x .2) };
+      }
 
   -- ---- what the linter answers
 
   module _ (room : List ℕ) (n : ℕ) where
     -- a count is given where there is room, and is that of the findings
-    counted : (es : List Entry) → answerTo es room ≡ Report n → (fits es room ≡ true) × (n ≡ length es)
+    counted : (es : List Entry) → answerTo es room ≡ Report n → (enoughRoom es room ≡ true) × (n ≡ length es)
     unfolding answerTo
-    counted es = go (fits es room)
+    counted es = go (enoughRoom es room)
       where
         go : (b : Bool) → cond b (Report (length es)) (Refused NoRoom) ≡ Report n → (b ≡ true) × (n ≡ length es)
         go true e = (refl, cc)

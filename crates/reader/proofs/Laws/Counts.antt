@@ -11,13 +11,13 @@ use Prim.Native.Nat.{ℕ, suc, _+_, _*_, _≤_, _<_}
 use native.Mathlib.Omega.{arith}
 use lib.ListN.{length, drop}
 use lib.Seq.{drop-drop}
-use Rattle.reader.specs.Runs.{blocks, blockAt, from, first, starts}
+use Rattle.reader.specs.Runs.{blocks, blockAt, from, firstBlock, starts}
 use Rattle.reader.specs.Events.{Event, eventIf, reading}
 use Rattle.reader.specs.Finding.{foundIf, foundAt, blocksIn}
 use Rattle.reader.specs.Counting.{recordsIn, lostIn}
 use Rattle.reader.specs.declared.finding.Found.{Found}
 use Rattle.reader.specs.declared.finding.Found.the-variants.{Record, Lost, End}
-use Rattle.blocks.specs.Block.{lengthOf}
+use Rattle.blocks.specs.Block.{recordLength}
 use Rattle.blocks.specs.Record.{parts}
 use Rattle.blocks.proofs.Laws.Logic.{true-or-false, below-or-not}
 use Rattle.reader.proofs.Laws.Steps.{some-parts, past-record, past-lost}
@@ -48,10 +48,10 @@ pub record Step (d : List ℕ) (i : ℕ) (found : Found) : Type 0 where
 module _ (d : List ℕ) (i : ℕ) where
   -- past a record, and past a lost block
   past-run : 512 * i < length d → starts (from d i) ≡ true
-      → eventsFrom d i ≡ eventIf true i (from d i) ∷ eventsFrom d (i + parts (lengthOf (blockAt d i)))
+      → eventsFrom d i ≡ eventIf true i (from d i) ∷ eventsFrom d (i + parts (recordLength (blockAt d i)))
   past-run h t =
-      let k : ℕ = parts (lengthOf (blockAt d i)) in
-      let same : parts (lengthOf (first (from d i))) ≡ k = ap (λ (b : List ℕ). parts (lengthOf b)) (first-is d i h) in
+      let k : ℕ = parts (recordLength (blockAt d i)) in
+      let same : parts (recordLength (firstBlock (from d i))) ≡ k = ap (λ (b : List ℕ). parts (recordLength b)) (first-is d i h) in
       past-record i (from d i) t
       ∙ ap (λ (m : ℕ). eventIf true i (from d i) ∷ reading 0 (i + m) (drop m (from d i))) same
       ∙ ap (λ (bs : List (List ℕ)). eventIf true i (from d i) ∷ reading 0 (i + k) bs) (drop-drop k i (blocks d))
@@ -74,7 +74,8 @@ module _ (d : List ℕ) (i : ℕ) where
 
   record-step : 512 * i < length d → starts (from d i) ≡ true → Step d i (foundAt d i)
   record-step h t =
-      let same : parts (lengthOf (first (from d i))) ≡ parts (lengthOf (blockAt d i)) = ap (λ (b : List ℕ). parts (lengthOf b)) (first-is d i h) in
+      let same : parts (recordLength (firstBlock (from d i))) ≡ parts (recordLength (blockAt d i)) =
+      ap (λ (b : List ℕ). parts (recordLength b)) (first-is d i h) in
       rw (found-record d i h t)
       record {
         counts-records = omega (arith, ap (λ (es : List Event). length (recordsIn es)) (past-run h t));

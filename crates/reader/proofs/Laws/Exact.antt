@@ -12,7 +12,7 @@ use lib.Dec.{ltb}
 use lib.ListN.{length, getD, drop, drop-of-length-le}
 use lib.Seq.{drop-cons, getD-drop}
 use borrow.Author.Tests.{lt-ltb, le-ltb}
-use Rattle.reader.specs.Runs.{blocks, first, starts}
+use Rattle.reader.specs.Runs.{blocks, firstBlock, starts}
 use Rattle.reader.specs.Events.{Event, eventIf, moreIf, reading, events}
 use Rattle.reader.specs.Exactly.{runLength, inRun, marks}
 use Rattle.blocks.specs.Tests.{_and_}
@@ -28,8 +28,8 @@ module _ (bs : List (List ℕ)) where
       let e₁ : a + (i - a) ≡ i = omega arith in
       let e₂ : i ≡ i + 0 = omega arith in
       let later : partOf (getD (drop a bs) (i - a) []) ≡ i - a = run-places (drop a bs) t (i - a) (omega arith) in
-      let here : partOf (first (drop i bs)) ≡ 0 = run-places (drop i bs) u 0 (some-parts (drop i bs) u) in
-      let same : getD (drop a bs) (i - a) [] ≡ first (drop i bs) =
+      let here : partOf (firstBlock (drop i bs)) ≡ 0 = run-places (drop i bs) u 0 (some-parts (drop i bs) u) in
+      let same : getD (drop a bs) (i - a) [] ≡ firstBlock (drop i bs) =
       getD-drop a bs (i - a) [] ∙ ap (λ (m : ℕ). getD bs m []) (e₁ ∙ e₂) ∙ sym (getD-drop i bs 0 []) in
       omega (arith, ap partOf same))
 

@@ -14,13 +14,13 @@ use Prim.Native.Nat.{ℕ, suc, _+_, _-_, _*_, _≤_, _<_}
 use native.Mathlib.Omega.{arith}
 use lib.ListN.{length, drop, length-take, length-drop}
 use borrow.Author.Tests.{lt-ltb, le-ltb, leb-true}
-use Rattle.reader.specs.Runs.{blockAt, from, dataFrom, isWhole, run, first, starts}
+use Rattle.reader.specs.Runs.{blockAt, from, dataFrom, isWhole, run, firstBlock, starts}
 use Rattle.reader.specs.Events.{lossIf, lossOf}
 use Rattle.reader.specs.Finding.{foundIf, foundAt}
 use Rattle.reader.specs.declared.finding.Loss.the-variants.{Short}
 use Rattle.reader.specs.declared.finding.Found.{Found}
 use Rattle.reader.specs.declared.finding.Found.the-variants.{Record, Lost, End}
-use Rattle.blocks.specs.Block.{sound, numberOf, lengthOf}
+use Rattle.blocks.specs.Block.{sound, recordNumber, recordLength}
 use Rattle.blocks.specs.Record.{parts, certificateLength}
 use Rattle.blocks.proofs.Laws.Logic.{and-left, and-right, fits, true-or-false, below-or-not}
 use Rattle.reader.proofs.Laws.Places.{from-cons}
@@ -35,7 +35,7 @@ unfolding foundAt
 found-none d i h = rw (le-ltb _ _ h)
 
 pub found-record : (d : List ℕ) (i : ℕ) → 512 * i < length d → starts (from d i) ≡ true
-    → foundAt d i ≡ Record (numberOf (blockAt d i)) (lengthOf (blockAt d i))
+    → foundAt d i ≡ Record (recordNumber (blockAt d i)) (recordLength (blockAt d i))
 found-record d i h t = found-by d i h ∙ simp t
 
 pub found-lost : (d : List ℕ) (i : ℕ) → 512 * i < length d → starts (from d i) ≡ false → foundAt d i ≡ Lost (lossOf (blockAt d i))
@@ -59,8 +59,8 @@ loss-whole b h = rw (le-ltb (length b) 512 h)
 -- all that is known where a record is found
 pub record Start (d : List ℕ) (i number n : ℕ) : Type 0 where
   pub begins : starts (from d i) ≡ true
-  pub number-is : number ≡ numberOf (first (from d i))
-  pub length-is : n ≡ lengthOf (first (from d i))
+  pub number-is : number ≡ recordNumber (firstBlock (from d i))
+  pub length-is : n ≡ recordLength (firstBlock (from d i))
   pub inside : 512 * i < length d
   pub whole : 512 * (i + parts n) ≤ length d
   pub least : 3 ≤ n
@@ -79,21 +79,21 @@ lengthIn (Lost loss) = 0
 lengthIn End = 0
 
 module _ (d : List ℕ) (i : ℕ) (t : starts (from d i) ≡ true) where
-  run-length : (3 ≤ lengthOf (first (from d i))) × (lengthOf (first (from d i)) ≤ 16387)
+  run-length : (3 ≤ recordLength (firstBlock (from d i))) × (recordLength (firstBlock (from d i)) ≤ 16387)
   unfolding starts run
-  run-length = fits 3 16387 (lengthOf (first (from d i))) (and-left _ _ (and-right _ _ t))
+  run-length = fits 3 16387 (recordLength (firstBlock (from d i))) (and-left _ _ (and-right _ _ t))
 
-  pub run-within : 512 * i < length d → 512 * (i + parts (lengthOf (first (from d i)))) ≤ length d
+  pub run-within : 512 * i < length d → 512 * (i + parts (recordLength (firstBlock (from d i)))) ≤ length d
   unfolding starts run
   run-within h =
-      parts-within (numberOf (first (from d i))) (lengthOf (first (from d i))) 0 (parts (lengthOf (first (from d i)))) d i
+      parts-within (recordNumber (firstBlock (from d i))) (recordLength (firstBlock (from d i))) 0 (parts (recordLength (firstBlock (from d i)))) d i
       (and-left _ _ (and-right _ _ (and-right _ _ t))) (omega arith)
 
-  run-fitted : certificateLength (dataFrom (parts (lengthOf (first (from d i)))) (from d i)) ≤ lengthOf (first (from d i)) - 3
+  run-fitted : certificateLength (dataFrom (parts (recordLength (firstBlock (from d i)))) (from d i)) ≤ recordLength (firstBlock (from d i)) - 3
   unfolding starts run isWhole
   run-fitted = leb-true _ _ (and-right _ _ (and-right _ _ (and-right _ _ (and-right _ _ t))))
 
-  starting : 512 * i < length d → Start d i (numberOf (first (from d i))) (lengthOf (first (from d i)))
+  starting : 512 * i < length d → Start d i (recordNumber (firstBlock (from d i))) (recordLength (firstBlock (from d i)))
   starting h =
       record {
         begins = t;
@@ -114,7 +114,7 @@ start-of d i number n e =
     let found : foundIf (starts (from d i)) (from d i) ≡ Record number n = rw (lt-ltb (512 * i) (length d) h) at e in
     ⊎-elim
     (λ (t : starts (from d i) ≡ true).
-    let same : Record (numberOf (first (from d i))) (lengthOf (first (from d i))) ≡ Record number n = rw t at found in
+    let same : Record (recordNumber (firstBlock (from d i))) (recordLength (firstBlock (from d i))) ≡ Record number n = rw t at found in
     rw (← ap numberIn same, ← ap lengthIn same) (starting d i t h))
     (λ (f : starts (from d i) ≡ false).
     absurd (let z : _≡_ {A = ℕ} 0 1 = (let other = rw f at found in cc) in omega arith))

@@ -12,11 +12,11 @@ use native.Mathlib.Omega.{arith}
 use lib.ListN.{length}
 use lib.Seq.{length-take-le}
 use borrow.Author.Tests.{lt-ltb, le-ltb}
-use Rattle.reader.specs.Runs.{from, first, starts, dataFrom, recordFrom}
+use Rattle.reader.specs.Runs.{from, firstBlock, starts, dataFrom, recordFrom}
 use Rattle.reader.specs.Events.{eventIf}
 use Rattle.reader.specs.Finding.{foundIf, foundAt, blocksIn}
 use Rattle.reader.specs.Stepping.{itemOf, itemBlocks, itemAt}
-use Rattle.blocks.specs.Block.{lengthOf}
+use Rattle.blocks.specs.Block.{recordLength}
 use Rattle.blocks.specs.Record.{parts}
 use Rattle.blocks.proofs.Laws.Logic.{below-or-not}
 use Rattle.reader.proofs.Laws.Steps.{some-parts}
@@ -26,10 +26,10 @@ use Rattle.reader.proofs.Laws.Counts.{step}
 
 module _ (d : List ℕ) (i : ℕ) where
   -- a record has as many octets as its blocks say
-  record-long : 512 * i < length d → starts (from d i) ≡ true → length (recordFrom (from d i)) ≡ lengthOf (first (from d i))
+  record-long : 512 * i < length d → starts (from d i) ≡ true → length (recordFrom (from d i)) ≡ recordLength (firstBlock (from d i))
   unfolding recordFrom
   record-long h t =
-      let n : ℕ = lengthOf (first (from d i)) in
+      let n : ℕ = recordLength (firstBlock (from d i)) in
       let long : length (dataFrom (parts n) (from d i)) ≡ parts n * 502 = data-length (parts n) d i (run-within d i t h) in
       length-take-le n (dataFrom (parts n) (from d i)) (omega arith)
 

@@ -15,7 +15,7 @@ use native.Mathlib.Nat.{le-of-suc-le-suc, not-suc-le-zero}
 use native.Mathlib.Omega.{arith}
 use lib.ListN.{length, take, drop, length-append, length-drop, drop-of-length-le}
 use lib.Seq.{drop-drop, length-take-le}
-use Rattle.reader.specs.Runs.{cut, blocks, from, blockAt, isPart, areParts, dataFrom, first}
+use Rattle.reader.specs.Runs.{cut, blocks, from, blockAt, isPart, areParts, dataFrom, firstBlock}
 use Rattle.blocks.specs.Tests.{_and_}
 use Rattle.blocks.specs.Block.{sound, dataOf}
 use Rattle.blocks.proofs.Laws.Logic.{and-not-left, below-or-not}
@@ -48,8 +48,8 @@ from-cons d i h = cut-drop ((length d + 511) / 512) i d (omega arith)
 pub from-nil : (d : List ℕ) (i : ℕ) → length d ≤ 512 * i → from d i ≡ []
 from-nil d i h = drop-of-length-le (blocks d) {i = i} (omega (arith, block-total d))
 
-pub first-is : (d : List ℕ) (i : ℕ) → 512 * i < length d → first (from d i) ≡ blockAt d i
-first-is d i h = ap first (from-cons d i h)
+pub first-is : (d : List ℕ) (i : ℕ) → 512 * i < length d → firstBlock (from d i) ≡ blockAt d i
+first-is d i h = ap firstBlock (from-cons d i h)
 
 pub block-long : (d : List ℕ) (i : ℕ) → 512 * i + 512 ≤ length d → length (blockAt d i) ≡ 512
 block-long d i h = length-take-le 512 (drop (512 * i) d) (simp length-drop (omega arith))

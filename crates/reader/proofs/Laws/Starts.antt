@@ -16,11 +16,11 @@ use native.Mathlib.Omega.{arith}
 use lib.ListN.{length, getD, drop, length-take, length-drop, List·getD-append}
 use lib.Seq.{drop-append-add, getD-take, getD-drop}
 use lib.Dec.{eqb, leb}
-use Rattle.reader.specs.Runs.{blocks, blockAt, from, isPart, areParts, dataFrom, isWhole, run, first, starts}
+use Rattle.reader.specs.Runs.{blocks, blockAt, from, isPart, areParts, dataFrom, isWhole, run, firstBlock, starts}
 use Rattle.octets.specs.Numbers.{pairAt}
 use Rattle.blocks.specs.Tests.{_and_}
-use Rattle.blocks.specs.Block.{sound, numberOf, lengthOf, partOf, isClear, dataOf}
-use Rattle.blocks.specs.Record.{isRecordLength, parts, zeros, certificateLength}
+use Rattle.blocks.specs.Block.{sound, recordNumber, recordLength, partOf, isClear, dataOf}
+use Rattle.blocks.specs.Record.{isRecordLength, parts, areZero, certificateLength}
 use Rattle.blocks.proofs.Laws.Logic.{and-same, and-left, and-right, and-passed, and-not-left, fits}
 use Rattle.blocks.proofs.Laws.Check.{sound-length}
 use Rattle.reader.proofs.Laws.Steps.{part-sound}
@@ -34,7 +34,7 @@ block-whole d i s =
     omega arith
 
 -- the block j of those from i on
-later-block : (d : List ℕ) (i j : ℕ) → getD (from d i) j [] ≡ first (from d (i + j))
+later-block : (d : List ℕ) (i j : ℕ) → getD (from d i) j [] ≡ firstBlock (from d (i + j))
 later-block d i j =
     let e : i + j ≡ i + j + 0 = omega arith in
     getD-drop i (blocks d) j [] ∙ ap (λ (m : ℕ). getD (blocks d) m []) e ∙ sym (getD-drop (i + j) (blocks d) 0 [])
@@ -48,9 +48,9 @@ four-tests true false r t = refl
 four-tests false q r t = refl
 
 pub part-by : (number n j : ℕ) (b : List ℕ) → sound b ≡ true
-    → isPart number n j b ≡ (eqb (numberOf b) number && eqb (lengthOf b) n && eqb (partOf b) j && isClear b)
+    → isPart number n j b ≡ (eqb (recordNumber b) number && eqb (recordLength b) n && eqb (partOf b) j && isClear b)
 unfolding isPart
-part-by number n j b s = and-passed _ s ∙ four-tests (eqb (numberOf b) number) (eqb (lengthOf b) n) (eqb (partOf b) j) (isClear b)
+part-by number n j b s = and-passed _ s ∙ four-tests (eqb (recordNumber b) number) (eqb (recordLength b) n) (eqb (partOf b) j) (isClear b)
 
 pub unsound-no-part : (number n j : ℕ) (b : List ℕ) → sound b ≡ false → isPart number n j b ≡ false
 unfolding isPart
@@ -98,14 +98,14 @@ data-last number n j (suc k) (b ∷ bs) t m =
 
 -- "last zero-filled": all of a record's fill stands in its last block
 pub last-fill : (number n k : ℕ) (d : List ℕ) (i : ℕ) → areParts number n 0 k (from d i) ≡ true → 512 * i ≤ length d → 0 < k → 502 * (k - 1) ≤ n
-    → zeros (drop n (dataFrom k (from d i))) ≡ zeros (drop (n - 502 * (k - 1)) (dataOf (blockAt d (i + (k - 1)))))
+    → areZero (drop n (dataFrom k (from d i))) ≡ areZero (drop (n - 502 * (k - 1)) (dataOf (blockAt d (i + (k - 1)))))
 last-fill number n k d i t h l m =
     let e : k ≡ suc (k - 1) = omega arith in
     let rest : n ≡ (k - 1) * 502 + (n - 502 * (k - 1)) = omega arith in
     let inside : 512 * (i + (k - 1)) < length d = omega (arith, parts-within number n 0 k d i t h) in
-    ap₂ (λ (x y : ℕ). zeros (drop x (dataFrom y (from d i)))) rest e
-    ∙ ap zeros (data-last number n 0 (k - 1) (from d i) (ap (λ (y : ℕ). areParts number n 0 y (from d i)) (sym e) ∙ t) (n - 502 * (k - 1)))
-    ∙ ap (λ (b : List ℕ). zeros (drop (n - 502 * (k - 1)) (dataOf b))) (later-block d i (k - 1) ∙ first-is d (i + (k - 1)) inside)
+    ap₂ (λ (x y : ℕ). areZero (drop x (dataFrom y (from d i)))) rest e
+    ∙ ap areZero (data-last number n 0 (k - 1) (from d i) (ap (λ (y : ℕ). areParts number n 0 y (from d i)) (sym e) ∙ t) (n - 502 * (k - 1)))
+    ∙ ap (λ (b : List ℕ). areZero (drop (n - 502 * (k - 1)) (dataOf b))) (later-block d i (k - 1) ∙ first-is d (i + (k - 1)) inside)
 
 -- octets 1 and 2 of a record stand at 9 and 10 of its first block
 pub certificate-at : (k : ℕ) (d : List ℕ) (i : ℕ) → 0 < k → 512 * (i + k) ≤ length d
@@ -161,15 +161,15 @@ module _ (number n : ℕ) (bs : List (List ℕ)) where
 
 -- the last test, as the code joins it: of the fill by the last block, of the certificate's length by the first
 pub whole-by : (number n k : ℕ) (d : List ℕ) (i : ℕ) → areParts number n 0 k (from d i) ≡ true → 512 * i ≤ length d → 0 < k → 502 * (k - 1) ≤ n
-    → isWhole n (dataFrom k (from d i)) ≡ (zeros (drop (n - 502 * (k - 1)) (dataOf (blockAt d (i + (k - 1))))) && leb (pairAt (blockAt d i) 9) (n - 3))
+    → isWhole n (dataFrom k (from d i)) ≡ (areZero (drop (n - 502 * (k - 1)) (dataOf (blockAt d (i + (k - 1))))) && leb (pairAt (blockAt d i) 9) (n - 3))
 unfolding isWhole
 whole-by number n k d i t h l m =
     ap₂ _and_ (last-fill number n k d i t h l m) (ap (λ (x : ℕ). leb x (n - 3)) (certificate-at k d i l (parts-within number n 0 k d i t h)))
     ∙ sym (and-same _ _)
 
 -- whether a run starts at a block, by that block's fields
-pub starts-by : (d : List ℕ) (i number n : ℕ) → 512 * i < length d → numberOf (blockAt d i) ≡ number → lengthOf (blockAt d i) ≡ n
+pub starts-by : (d : List ℕ) (i number n : ℕ) → 512 * i < length d → recordNumber (blockAt d i) ≡ number → recordLength (blockAt d i) ≡ n
     → starts (from d i) ≡ run number n (from d i)
 unfolding starts
 starts-by d i number n h p q =
-    ap₂ (λ (a c : ℕ). run a c (from d i)) (ap numberOf (first-is d i h) ∙ p) (ap lengthOf (first-is d i h) ∙ q)
+    ap₂ (λ (a c : ℕ). run a c (from d i)) (ap recordNumber (first-is d i h) ∙ p) (ap recordLength (first-is d i h) ∙ q)

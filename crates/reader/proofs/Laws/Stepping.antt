@@ -22,7 +22,7 @@ use Rattle.reader.specs.declared.stepping.Record.{Record}
 use Rattle.reader.specs.declared.stepping.Item.{Item}
 use Rattle.octets.specs.Octets.{octetAt}
 use Rattle.octets.specs.Numbers.{pairAt}
-use Rattle.blocks.specs.Record.{parts, profileIn, certificateLength, certificateIn, issuerIn}
+use Rattle.blocks.specs.Record.{parts, profileIn, certificateLength, certificateOctets, issuerOctets}
 use Rattle.lint.specs.Answers.{Answered}
 use Rattle.lint.specs.declared.linting.Answer.{Answer}
 use Rattle.reader.proofs.Laws.Places.{data-length}
@@ -48,15 +48,15 @@ module _ (desk : List ℕ) (n cut : ℕ) (e : cut ≡ 3 + pairAt desk 1) (h : cu
   on-cut : certificateLength p ≡ pairAt desk 1
   on-cut = ap₂ (λ (a b : ℕ). 256 * a + b) (getD-take n desk 1 0 (omega arith)) (getD-take n desk 2 0 (omega arith))
 
-  on-certificate : certificateIn p ≡ take (cut - 3) (drop 3 desk)
-  unfolding certificateIn
+  on-certificate : certificateOctets p ≡ take (cut - 3) (drop 3 desk)
+  unfolding certificateOctets
   on-certificate =
       let m : certificateLength p ≡ cut - 3 = on-cut ∙ omega arith in
       ap₂ (λ (i : ℕ) (l : List ℕ). take i l) m (drop-take 3 n desk (omega arith) (omega arith))
       ∙ take-take (cut - 3) (n - 3) (drop 3 desk) (omega arith)
 
-  on-issuer : issuerIn p ≡ take (n - cut) (drop cut desk)
-  unfolding issuerIn
+  on-issuer : issuerOctets p ≡ take (n - cut) (drop cut desk)
+  unfolding issuerOctets
   on-issuer =
       let m : 3 + certificateLength p ≡ cut = omega (arith, on-cut) in
       ap (λ (i : ℕ). drop i p) m ∙ drop-take cut n desk h (omega arith)

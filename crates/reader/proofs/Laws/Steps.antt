@@ -11,9 +11,9 @@ use native.Mathlib.Nat.{le-of-suc-le-suc, not-suc-le-zero, add-zero}
 use native.Mathlib.Omega.{arith}
 use lib.ListN.{getD, drop}
 use borrow.Author.Tests.{eqb-true}
-use Rattle.reader.specs.Runs.{isPart, areParts, run, first, starts}
+use Rattle.reader.specs.Runs.{isPart, areParts, run, firstBlock, starts}
 use Rattle.reader.specs.Events.{Event, lost-at, lossOf, eventIf, reading}
-use Rattle.blocks.specs.Block.{sound, numberOf, lengthOf, partOf}
+use Rattle.blocks.specs.Block.{sound, recordNumber, recordLength, partOf}
 use Rattle.blocks.specs.Record.{parts}
 use Rattle.blocks.proofs.Laws.Logic.{and-left, and-right, fits}
 
@@ -40,29 +40,31 @@ part-part number n j b t = eqb-true _ _ (and-left _ _ (and-right _ _ (and-right 
 
 -- a record that starts has three octets or more, so a part; each of its blocks is sound, and its part
 module _ (bs : List (List ℕ)) (t : starts bs ≡ true) where
-  pub some-parts : 0 < parts (lengthOf (first bs))
+  pub some-parts : 0 < parts (recordLength (firstBlock bs))
   unfolding starts run
   some-parts =
-      let h : (3 ≤ lengthOf (first bs)) × (lengthOf (first bs) ≤ 16387) = fits 3 16387 (lengthOf (first bs)) (and-left _ _ (and-right _ _ t)) in
+      let h : (3 ≤ recordLength (firstBlock bs)) × (recordLength (firstBlock bs) ≤ 16387) =
+      fits 3 16387 (recordLength (firstBlock bs)) (and-left _ _ (and-right _ _ t)) in
       omega arith
 
-  run-part : (i : ℕ) → i < parts (lengthOf (first bs)) → isPart (numberOf (first bs)) (lengthOf (first bs)) (0 + i) (getD bs i []) ≡ true
+  run-part : (i : ℕ) → i < parts (recordLength (firstBlock bs))
+      → isPart (recordNumber (firstBlock bs)) (recordLength (firstBlock bs)) (0 + i) (getD bs i []) ≡ true
   unfolding starts run
   run-part i h =
-      parts-at (numberOf (first bs)) (lengthOf (first bs)) 0 (parts (lengthOf (first bs))) bs
+      parts-at (recordNumber (firstBlock bs)) (recordLength (firstBlock bs)) 0 (parts (recordLength (firstBlock bs))) bs
       (and-left _ _ (and-right _ _ (and-right _ _ t))) i h
 
-  pub run-sound : (i : ℕ) → i < parts (lengthOf (first bs)) → sound (getD bs i []) ≡ true
+  pub run-sound : (i : ℕ) → i < parts (recordLength (firstBlock bs)) → sound (getD bs i []) ≡ true
   run-sound i h = part-sound _ _ _ _ (run-part i h)
 
-  pub run-places : (i : ℕ) → i < parts (lengthOf (first bs)) → partOf (getD bs i []) ≡ i
+  pub run-places : (i : ℕ) → i < parts (recordLength (firstBlock bs)) → partOf (getD bs i []) ≡ i
   run-places i h = part-part _ _ _ _ (run-part i h) ∙ omega arith
 
 -- past a record
 pub past-record : (at : ℕ) (bs : List (List ℕ)) → starts bs ≡ true
-    → reading 0 at bs ≡ eventIf true at bs ∷ reading 0 (at + parts (lengthOf (first bs))) (drop (parts (lengthOf (first bs))) bs)
+    → reading 0 at bs ≡ eventIf true at bs ∷ reading 0 (at + parts (recordLength (firstBlock bs))) (drop (parts (recordLength (firstBlock bs))) bs)
 past-record at [] t = absurd (not-suc-le-zero (some-parts [] t))
-past-record at (b ∷ bs) t = rw t (ap (λ (es : List Event). eventIf true at (b ∷ bs) ∷ es) (go (parts (lengthOf b)) (some-parts (b ∷ bs) t)))
+past-record at (b ∷ bs) t = rw t (ap (λ (es : List Event). eventIf true at (b ∷ bs) ∷ es) (go (parts (recordLength b)) (some-parts (b ∷ bs) t)))
   where
     go : (k : ℕ) → 0 < k → reading (pred k) (suc at) bs ≡ reading 0 (at + k) (drop k (b ∷ bs))
     go zero h = absurd (not-suc-le-zero h)

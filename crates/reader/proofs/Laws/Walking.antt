@@ -15,7 +15,7 @@ use Rattle.reader.specs.Events.{Event, record-at, lost-at, eventIf, read
 use Rattle.reader.specs.Finding.{foundAt, blocksIn}
 use Rattle.reader.specs.Stepping.{lintedRoom, itemOf, roomAfter, eventAt, itemAt, roomAt}
 use Rattle.reader.specs.Walking.{Handed, handedAt, unlessEnd, walk, positionOf, handedOver, allHandedOver}
-use Rattle.blocks.specs.Record.{profileIn, certificateIn, issuerIn}
+use Rattle.blocks.specs.Record.{profileIn, certificateOctets, issuerOctets}
 use Rattle.blocks.proofs.Laws.Logic.{below-or-not}
 use Rattle.lint.proofs.Laws.Rooms.{answer-room, room-long, report-room}
 use Rattle.lint.specs.declared.linting.Answer.{Answer}
@@ -34,13 +34,13 @@ same-handed room other h (record-at position number p) =
       item = Items.Record (record { number = number; profile = profileIn p; length = length p; answer = a });
       report = report;
     })
-    (answer-room (certificateIn p) (issuerIn p) room (profileIn p) other h)
-    (report-room (certificateIn p) (issuerIn p) room other h (profileIn p))
+    (answer-room (certificateOctets p) (issuerOctets p) room (profileIn p) other h)
+    (report-room (certificateOctets p) (issuerOctets p) room other h (profileIn p))
 same-handed room other h (lost-at position loss) = refl
 
 after-long : (room : List ℕ) (e : Event) → length (roomAfter room e) ≡ length room
 unfolding lintedRoom
-after-long room (record-at position number p) = room-long (certificateIn p) (issuerIn p) room (profileIn p)
+after-long room (record-at position number p) = room-long (certificateOctets p) (issuerOctets p) room (profileIn p)
 after-long room (lost-at position loss) = refl
 
 no-end : (room : List ℕ) (e : Event) (handed : Handed) (later : List Handed) → unlessEnd (itemOf room e) handed later ≡ handed ∷ later

@@ -14,7 +14,7 @@ use Prim.Native.Nat.{ℕ, zero, suc, _+_, _*_, _^_, _≤_, _<_}
 use native.Mathlib.Omega.{arith}
 use lib.ListN.{length, getD, take, drop, take-append-drop}
 use lib.Seq.{drop-at, length-take-le}
-use Rattle.blocks.specs.Block.{sound, lengthOf, partOf, blockOf}
+use Rattle.blocks.specs.Block.{sound, recordLength, partOf, blockOf}
 use Rattle.blocks.specs.Record.{parts}
 use Rattle.blocks.proofs.Laws.Logic.{and-both, and-left, and-right, not-true, true-or-false}
 use Rattle.blocks.proofs.Laws.Block.{block-len, block-part}
@@ -23,7 +23,7 @@ use Rattle.writer.proofs.Laws.Cutting.{from-count, filled-length, blocks-count}
 use Rattle.reader.specs.Runs.{starts}
 use Rattle.reader.specs.Events.{Event, record-at, lost-at, lossOf, reading}
 use Rattle.reader.proofs.Laws.Steps.{some-parts, run-sound, run-places, past-record, past-lost}
-use Rattle.recovery.specs.Submitted.{Submitted, octetsOf, written}
+use Rattle.recovery.specs.Submitted.{Submitted, submittedOctets, written}
 use Rattle.recovery.specs.Spoiling.{allSound}
 use Rattle.recovery.specs.Expected.{extent}
 use Rattle.recovery.proofs.Laws.Taken.{Proper, AllProper}
@@ -42,7 +42,7 @@ fateEvents false position number p bs = lostEvents position bs
 abbrev pub expectedEvents : ℕ → ℕ → List Submitted → List (List ℕ) → List Event
 expectedEvents position number [] bs = []
 expectedEvents position number (s ∷ ss) bs =
-    fateEvents (allSound (take (extent s) bs)) position number (octetsOf s) (take (extent s) bs)
+    fateEvents (allSound (take (extent s) bs)) position number (submittedOctets s) (take (extent s) bs)
     ++ expectedEvents (position + extent s) (suc number) ss (drop (extent s) bs)
 
 -- ---- blocks, spoiled
@@ -117,7 +117,7 @@ module _ (number n : ℕ) where
   record-lost hnumber hn at k content cs rest hk hd (kept {cs = cs′} s) f =
       let b : List ℕ = blockOf number n 0 (take 502 content) in
       let long : length cs′ ≡ k = spoilt-length s ∙ from-count number n k 1 (drop 502 content) in
-      let len : lengthOf b ≡ n = block-len number n 0 (take 502 content) hnumber hn (length-take-le 502 content (omega arith)) in
+      let len : recordLength b ≡ n = block-len number n 0 (take 502 content) hnumber hn (length-take-le 502 content (omega arith)) in
       past-lost at b (cs′ ++ rest)
       (not-true (λ t. false≢true (sym f ∙ all-sound (b ∷ cs′) rest (λ i l. run-sound (b ∷ (cs′ ++ rest)) t i (rw (len, hk) (omega arith))))))
       ∙ ap (λ (es : List Event). lost-at at (lossOf b) ∷ es) (later-lost at k (drop 502 content) cs′ rest s)
@@ -170,7 +170,7 @@ pub recovery : (ss : List Submitted) (number at : ℕ) (cs : List (List ℕ)) �
     → Spoilt (written number ss) cs → reading 0 at cs ≡ expectedEvents at number ss cs
 recovery [] number at cs h₀ hnumber ok ended = refl
 recovery (s ∷ ss) number at cs h₀ hnumber ok spoiled =
-    let p : List ℕ = octetsOf s in
+    let p : List ℕ = submittedOctets s in
     let k : ℕ = parts (length p) in
     let below : number < 2 ^ 32 = omega arith in
     let both : Spoilt (blocksOf number p) (take k cs) × Spoilt (written (suc number) ss) (drop k cs) =

@@ -11,7 +11,7 @@ use Prim.Native.Nat.{ℕ, suc, _+_, _^_, _≤_, _<_}
 use native.Mathlib.Omega.{arith}
 use lib.ListN.{length, take, drop, length-append, length-drop}
 use lib.Seq.{take-at, drop-at, length-take-le}
-use Rattle.writer.specs.Cutting.{blocksOf, joined}
+use Rattle.writer.specs.Cutting.{blocksOf, endToEnd}
 use Rattle.writer.proofs.Laws.Cutting.{blocks-count}
 use Rattle.reader.specs.Runs.{blocks}
 use Rattle.reader.specs.Events.{Event, lossOf}
@@ -20,7 +20,7 @@ use Rattle.reader.specs.Walking.{Handed, handedAt, handedOver, allHandedOver}
 use Rattle.reader.specs.declared.stepping.Record.{Record}
 use Rattle.reader.specs.declared.stepping.Item.the-variants as Items
 use Rattle.reader.proofs.Laws.Walking.{walked}
-use Rattle.recovery.specs.Submitted.{Submitted, octetsOf, Writable, AllWritable, written}
+use Rattle.recovery.specs.Submitted.{Submitted, submittedOctets, Writable, AllWritable, written}
 use Rattle.recovery.specs.Spoiling.{Spoiled, allSound}
 use Rattle.recovery.specs.Expected.{allLost, fate, extent, expected, allHandedOut, OneBehindTheOther}
 use Rattle.recovery.specs.Statements.{Recovers, NoneSpoiled, EachOnce}
@@ -41,7 +41,7 @@ module _ (room : List ℕ) where
       ap (λ (later : List Handed). record { position = position; item = Items.Lost (lossOf b); report = [] } ∷ later) (items-lost (suc position) bs)
 
   items-fate : (t : Bool) (position number : ℕ) (s : Submitted) (bs : List (List ℕ)) → Writable s
-      → allHandedOver room (fateEvents t position number (octetsOf s) bs) ≡ fate t room position number s bs
+      → allHandedOver room (fateEvents t position number (submittedOctets s) bs) ≡ fate t room position number s bs
   items-fate true position number s bs w =
       ap₂ (λ (r : Record) (last : List ℕ). handedAt position (Items.Record r) last ∷ []) (linted s w number room) (linted-room s w room)
   items-fate false position number s bs w = items-lost position bs
@@ -51,7 +51,7 @@ module _ (room : List ℕ) where
   items-expected [] position number bs w = refl
   items-expected (s ∷ ss) position number bs w =
       items-append
-      (fateEvents (allSound (take (extent s) bs)) position number (octetsOf s) (take (extent s) bs))
+      (fateEvents (allSound (take (extent s) bs)) position number (submittedOctets s) (take (extent s) bs))
       (expectedEvents (position + extent s) (suc number) ss (drop (extent s) bs))
       ∙ rw (
         items-fate (allSound (take (extent s) bs)) position number s (take (extent s) bs) (w .0),
@@ -64,12 +64,12 @@ none-fails : (room : List ℕ) (ss : List Submitted) (position number : ℕ) →
     → expected room position number ss (written number ss) ≡ allHandedOut room position number ss
 none-fails room [] position number h₀ small ok = refl
 none-fails room (s ∷ ss) position number h₀ small ok =
-    let bs : List (List ℕ) = blocksOf number (octetsOf s) in
-    let long : length bs ≡ extent s = blocks-count (octetsOf s) number in
+    let bs : List (List ℕ) = blocksOf number (submittedOctets s) in
+    let long : length bs ≡ extent s = blocks-count (submittedOctets s) number in
     rw (
       take-at bs (written (suc number) ss) (extent s) long,
       drop-at bs (written (suc number) ss) (extent s) long,
-      blocks-sound number (octetsOf s) h₀ (omega arith) (ok .0),
+      blocks-sound number (submittedOctets s) h₀ (omega arith) (ok .0),
       none-fails room ss (position + extent s) (suc number) (omega arith) (omega arith) (ok .1),
     )
 
@@ -101,8 +101,8 @@ behind-expected room [] position number cs ok h = omega arith
 behind-expected room (s ∷ ss) position number cs ok h =
     let k : ℕ = extent s in
     let long : length cs ≡ k + length (written (suc number) ss) =
-    h ∙ length-append (blocksOf number (octetsOf s)) (written (suc number) ss)
-    ∙ ap (λ (m : ℕ). m + length (written (suc number) ss)) (blocks-count (octetsOf s) number) in
+    h ∙ length-append (blocksOf number (submittedOctets s)) (written (suc number) ss)
+    ∙ ap (λ (m : ℕ). m + length (written (suc number) ss)) (blocks-count (submittedOctets s) number) in
     let rest : length (drop k cs) ≡ length (written (suc number) ss) = rw length-drop (omega arith) in
     let e : position + k + length (drop k cs) ≡ position + length cs = omega arith in
     behind-append
@@ -130,7 +130,7 @@ recovers ss deck room steps small w s enough =
 
 pub none-spoiled : (ss : List Submitted) → NoneSpoiled ss
 none-spoiled ss room steps small w enough =
-    let deck : List ℕ = joined (written 1 ss) in
+    let deck : List ℕ = endToEnd (written 1 ss) in
     let ok : AllProper ss = all-proper ss w in
     let same : Spoiled deck deck = record { as-long = refl; each = λ position. inl refl } in
     recovers ss deck room steps small w same (rw (written-blocks ss small ok) enough)

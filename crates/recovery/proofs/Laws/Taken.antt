@@ -13,7 +13,7 @@ use Rattle.lint.proofs.Laws.Accepted.{admitted-certificate, admitted-issuer}
 use Rattle.blocks.specs.Record.{certificateLength}
 use Rattle.blocks.proofs.Laws.Record.{record-length, record-profile, record-cut, record-certificate, record-issuer}
 use Rattle.reader.specs.Stepping.{lintedRecord, lintedRoom}
-use Rattle.recovery.specs.Submitted.{Submitted, octetsOf, Writable, AllWritable}
+use Rattle.recovery.specs.Submitted.{Submitted, submittedOctets, Writable, AllWritable}
 use Rattle.recovery.specs.Expected.{handedOut}
 
 pub record Proper (p : List ℕ) : Type 0 where
@@ -23,7 +23,7 @@ pub record Proper (p : List ℕ) : Type 0 where
 
 abbrev pub AllProper : List Submitted → Type 0
 AllProper [] = Unit {0}
-AllProper (s ∷ ss) = Proper (octetsOf s) × AllProper ss
+AllProper (s ∷ ss) = Proper (submittedOctets s) × AllProper ss
 
 module _ (s : Submitted) (w : Writable s) where
   -- refusals 1 and 2
@@ -33,16 +33,16 @@ module _ (s : Submitted) (w : Writable s) where
   issuer-short : length (s .issuer) ≤ 8192
   issuer-short = admitted-issuer (length (s .certificate)) (length (s .issuer)) (s .profile) (w .for) (w .admitted) .1
 
-  pub proper : Proper (octetsOf s)
+  pub proper : Proper (submittedOctets s)
   proper =
-      let long : length (octetsOf s) ≡ 3 + length (s .certificate) + length (s .issuer) = record-length (s .profile) (s .certificate) (s .issuer) in
+      let long : length (submittedOctets s) ≡ 3 + length (s .certificate) + length (s .issuer) = record-length (s .profile) (s .certificate) (s .issuer) in
       record {
         least = omega (arith, long);
         most = omega (arith, long, certificate-short, issuer-short);
         inside = omega (arith, long, record-cut (s .profile) (s .certificate) (s .issuer) certificate-short);
       }
 
-  pub linted : (number : ℕ) (room : List ℕ) → lintedRecord number (octetsOf s) room ≡ handedOut room number s
+  pub linted : (number : ℕ) (room : List ℕ) → lintedRecord number (submittedOctets s) room ≡ handedOut room number s
   linted number room =
       rw (
         record-profile (s .profile) (s .certificate) (s .issuer),
@@ -50,7 +50,7 @@ module _ (s : Submitted) (w : Writable s) where
         record-issuer (s .profile) (s .certificate) (s .issuer) certificate-short,
       )
 
-  pub linted-room : (room : List ℕ) → lintedRoom (octetsOf s) room ≡ roomOf (s .certificate) (s .issuer) (s .profile) room
+  pub linted-room : (room : List ℕ) → lintedRoom (submittedOctets s) room ≡ roomOf (s .certificate) (s .issuer) (s .profile) room
   unfolding lintedRoom
   linted-room room =
       rw (

@@ -12,13 +12,13 @@ use native.Mathlib.Nat.{not-suc-le-zero}
 use lib.ListN.{length, take, drop, replicate, length-drop, take-append-drop, drop-of-length-le, List·getD-append}
 use lib.Seq.{take-at, drop-at, length-take-le}
 use borrow.Author.Tests.{eq-eqb, le-leb, ne-eqb}
-use Rattle.blocks.specs.Block.{numberOf, lengthOf, blockOf}
-use Rattle.blocks.specs.Record.{parts, zeros}
+use Rattle.blocks.specs.Block.{recordNumber, recordLength, blockOf}
+use Rattle.blocks.specs.Record.{parts, areZero}
 use Rattle.blocks.proofs.Laws.Logic.{and-both, fitting}
 use Rattle.blocks.proofs.Laws.Block.{block-sound, block-number, block-len, block-part, block-clear, block-data}
 use Rattle.writer.specs.Cutting.{zeroFilled, blocksFrom, blocksOf}
 use Rattle.writer.proofs.Laws.Cutting.{filled-length}
-use Rattle.reader.specs.Runs.{isPart, areParts, dataFrom, isWhole, run, first, starts, recordFrom}
+use Rattle.reader.specs.Runs.{isPart, areParts, dataFrom, isWhole, run, firstBlock, starts, recordFrom}
 use Rattle.recovery.proofs.Laws.Taken.{Proper}
 
 pub block-is-part : (number n j : ℕ) (content : List ℕ) → number < 2 ^ 32 → n < 65536 → length content ≡ 502
@@ -47,7 +47,7 @@ module _ (number n : ℕ) (hnumber : number < 2 ^ 32) (hn : n < 65536) (rest : L
       )
       (take-append-drop 502 content)
 
-zeros-replicate : (n : ℕ) → zeros (replicate n 0) ≡ true
+zeros-replicate : (n : ℕ) → areZero (replicate n 0) ≡ true
 zeros-replicate zero = refl
 zeros-replicate (suc n) = and-both refl (zeros-replicate n)
 
@@ -80,18 +80,18 @@ module _ (p : List ℕ) (ok : Proper p) where
         (and-both (from-parts number (length p) hnumber hn rest (parts (length p)) 0 (zeroFilled p) (filled-length p))
         (rw (from-data number (length p) hnumber hn rest (parts (length p)) 0 (zeroFilled p) (filled-length p)) filled-whole)))
 
-    first-block : first (blocksOf number p ++ rest) ≡ blockOf number (length p) 0 (take 502 (zeroFilled p))
+    first-block : firstBlock (blocksOf number p ++ rest) ≡ blockOf number (length p) 0 (take 502 (zeroFilled p))
     unfolding blocksOf
     first-block = go (parts (length p)) (omega (arith, ok .least))
       where
-        go : (k : ℕ) → 0 < k → first (blocksFrom number (length p) 0 k (zeroFilled p) ++ rest) ≡ blockOf number (length p) 0 (take 502 (zeroFilled p))
+        go : (k : ℕ) → 0 < k → firstBlock (blocksFrom number (length p) 0 k (zeroFilled p) ++ rest) ≡ blockOf number (length p) 0 (take 502 (zeroFilled p))
         go zero h = absurd (not-suc-le-zero h)
         go (suc k) h = refl
 
-    pub first-number : numberOf (first (blocksOf number p ++ rest)) ≡ number
+    pub first-number : recordNumber (firstBlock (blocksOf number p ++ rest)) ≡ number
     first-number = rw first-block (block-number number (length p) 0 (take 502 (zeroFilled p)) hnumber (omega (arith, ok .most)) first-data)
 
-    pub first-length : lengthOf (first (blocksOf number p ++ rest)) ≡ length p
+    pub first-length : recordLength (firstBlock (blocksOf number p ++ rest)) ≡ length p
     first-length = rw first-block (block-len number (length p) 0 (take 502 (zeroFilled p)) hnumber (omega (arith, ok .most)) first-data)
 
     pub blocks-start : starts (blocksOf number p ++ rest) ≡ true

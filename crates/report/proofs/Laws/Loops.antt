@@ -2,7 +2,7 @@
 --     room-kept                           the room stays as long as it was
 --     Turn                                a loop that appends what each element gives: what is still to be put
 --     turn-start, turn-next, turn-end     what is put for the elements one after the other is what is put for their list
---     each-joined                         "each" gives an entry, or none, for each item
+--     each-gathered                         "each" gives an entry, or none, for each item
 -- Assumes nothing.
 use mathlib.Core.Path.{_≡_, refl, ap, _∙_}
 use mathlib.Core.List.{List, [], _∷_, map}
@@ -12,8 +12,8 @@ use lib.ListN.{length}
 use lib.Seq.{sets, length-sets}
 use lib.Dec.{leb}
 use Rattle.report.specs.declared.sink.Entry.{Entry}
-use Rattle.report.specs.Entries.{width, octetsOf, noted}
-use Rattle.report.specs.Forms.{each, joined}
+use Rattle.report.specs.Entries.{width, entryOctets, noted}
+use Rattle.report.specs.Forms.{each, gathered}
 use Rattle.report.specs.Putting.{tick, putOne, putAll, Put}
 use Rattle.der.specs.Header.{headOf, childrenOf}
 use Rattle.der.specs.declared.header.Head.{Head}
@@ -27,8 +27,8 @@ one-kept : (e : Entry) (n : ℕ) (room : List ℕ) → length (putOne e n room) 
 unfolding putOne
 one-kept e n room = go (leb (width * n + width) (length room))
   where
-    go : (fits : Bool) → length (cond fits (sets room (width * n) (octetsOf e)) room) ≡ length room
-    go true = length-sets room (width * n) (octetsOf e)
+    go : (fits : Bool) → length (cond fits (sets room (width * n) (entryOctets e)) room) ≡ length room
+    go true = length-sets room (width * n) (entryOctets e)
     go false = refl
 
 all-kept : (es : List Entry) (n : ℕ) (room : List ℕ) → length (putAll es n room) ≡ length room
@@ -44,7 +44,7 @@ room-kept {es} {n} {r} {room} p = ap length (p .bytes) ∙ all-kept es n room
 -- Room that had n₀ entries when the loop was at `from` has n now that it is at `at`. What f gives for the elements from there on is still to be put.
 pub record Turn (f : Head → List Entry) (s : List ℕ) (end from n₀ : ℕ) (room₀ : List ℕ) (at n : ℕ) (room : List ℕ) : Type 0 where
   pub kept : length room ≡ length room₀
-  pub rest : Rest (joined (map f (childrenOf s at end))) n room (joined (map f (childrenOf s from end))) n₀ room₀
+  pub rest : Rest (gathered (map f (childrenOf s at end))) n room (gathered (map f (childrenOf s from end))) n₀ room₀
 
 pub turn-start : (f : Head → List Entry) (s : List ℕ) (end at n : ℕ) (room : List ℕ) → Turn f s end at n room at n room
 turn-start f s end at n room = record { kept = refl; rest = rest-start _ _ _ }
@@ -53,15 +53,15 @@ module _ {f : Head → List Entry} {s : List ℕ} {end from n₀ at n : ℕ} {ro
   pub turn-next :
       {m : ℕ} {last : List ℕ} (h : Head) → at < end → h ≡ headOf s at end
       → Turn f s end from n₀ room₀ at n room → Put (f h) n room m last → Turn f s end from n₀ room₀ (h .end) m last
-  unfolding joined
+  unfolding gathered
   turn-next h l e t p =
       record { kept = room-kept p ∙ t .kept; rest = rest-step (rw (children-next s at end l, ← e) at (t .rest)) p }
 
-  pub turn-end : end ≤ at → Turn f s end from n₀ room₀ at n room → Put (joined (map f (childrenOf s from end))) n₀ room₀ n room
-  unfolding joined
+  pub turn-end : end ≤ at → Turn f s end from n₀ room₀ at n room → Put (gathered (map f (childrenOf s from end))) n₀ room₀ n room
+  unfolding gathered
   turn-end l t = rest-end (rw (children-done s at end l) at (t .rest))
 
-pub each-joined : (rule : ℕ) (bad : Head → Bool) (hs : List Head) → each rule bad hs ≡ joined (map (λ h. noted rule (bad h) h) hs)
-unfolding joined
-each-joined rule bad [] = each-none rule bad
-each-joined rule bad (h ∷ hs) = rw (each-next rule bad h hs, each-joined rule bad hs)
+pub each-gathered : (rule : ℕ) (bad : Head → Bool) (hs : List Head) → each rule bad hs ≡ gathered (map (λ h. noted rule (bad h) h) hs)
+unfolding gathered
+each-gathered rule bad [] = each-none rule bad
+each-gathered rule bad (h ∷ hs) = rw (each-next rule bad h hs, each-gathered rule bad hs)

@@ -3,9 +3,9 @@
 --     pass-written       what both show where it does
 --     pass-none          what the first shows where it counts nothing: there is nothing to write
 --     filled-short, filled-written      the room at the end
---     encode-long, filled-long          how long the entries' octets are, and that the room keeps its length
+--     report-long, filled-long          how long the entries' octets are, and that the room keeps its length
 --     filled-report      the report in the room is the entries' octets, where they fit
---     fits-room          whether they fit asks nothing of the room but its length
+--     enough-by-length   whether they fit asks nothing of the room but its length
 -- Assumes nothing.
 use mathlib.Core.Path.{_≡_, refl, sym, ap, _∙_}
 use mathlib.Core.List.{List, [], _∷_, _++_, append-assoc, append-nil}
@@ -18,9 +18,9 @@ use lib.ListN.{length, take, drop, length-append, length-drop, take-append-drop}
 use lib.Seq.{sets-eq, take-at, drop-drop, drop-append-add, length-take-le}
 use borrow.Author.Tests.{ltb-true, ltb-false, lt-ltb, leb-true, leb-false, le-leb, lt-leb}
 use Rattle.report.specs.declared.sink.Entry.{Entry}
-use Rattle.report.specs.Entries.{width, octetsOf, encode}
+use Rattle.report.specs.Entries.{width, entryOctets, reportOctets}
 use Rattle.report.specs.Putting.{cap, tick, putOne, counted, putAll, Put}
-use Rattle.report.specs.Answers.{fits, filled, Short, Written}
+use Rattle.report.specs.Answers.{enoughRoom, filled, Short, WrittenWhole}
 use Rattle.report.proofs.Laws.Putting.{nothing}
 
 -- ---- the count
@@ -67,22 +67,22 @@ unfolding tick
 ticks n h = rw (lt-ltb n cap h)
 
 one-written : (n : ℕ) (room : List ℕ) (e : Entry) → width * n + width ≤ length room
-    → putOne e n room ≡ take (width * n) room ++ octetsOf e ++ drop (width * n + width) room
+    → putOne e n room ≡ take (width * n) room ++ entryOctets e ++ drop (width * n + width) room
 unfolding putOne
-one-written n room e h = rw (le-leb (width * n + width) (length room) h) (sets-eq (octetsOf e) room (width * n) h)
+one-written n room e h = rw (le-leb (width * n + width) (length room) h) (sets-eq (entryOctets e) room (width * n) h)
 
 seam : (p q x : List ℕ) (j m : ℕ) → length p ≡ j → take j (p ++ q) ++ x ++ drop (j + m) (p ++ q) ≡ p ++ x ++ drop m q
 seam p q x j m e = rw (take-at p q j e, ← e, drop-append-add p q m)
 
 all-written : (es : List Entry) (n : ℕ) (room : List ℕ) → width * (n + length es) ≤ length room → length room < 2 ^ 63
-    → putAll es n room ≡ take (width * n) room ++ encode es ++ drop (width * (n + length es)) room
-unfolding putAll encode
+    → putAll es n room ≡ take (width * n) room ++ reportOctets es ++ drop (width * (n + length es)) room
+unfolding putAll reportOctets
 all-written [] n room h k = simp (append-nil, add-zero, take-append-drop)
 all-written (e ∷ es) n room h k =
-    let before = take (width * n) room ++ octetsOf e in
+    let before = take (width * n) room ++ entryOctets e in
     let behind = drop (width * n + width) room in
     let lp : length before ≡ width * n + width
-    = length-append (take (width * n) room) (octetsOf e) ∙ rw (length-take-le (width * n) room (omega arith)) in
+    = length-append (take (width * n) room) (entryOctets e) ∙ rw (length-take-le (width * n) room (omega arith)) in
     let same : length (before ++ behind) ≡ length room
     = rw (length-append before behind, lp, length-drop (width * n + width) room) (omega arith) in
     let a : width * (n + 1) ≡ width * n + width = omega arith in
@@ -91,40 +91,40 @@ all-written (e ∷ es) n room h k =
     rw (one-written n room e (omega arith), ticks n (omega arith), d)
     (all-written es (n + 1) (before ++ behind) (omega arith) (omega arith)
     ∙ rw (a, b)
-    (seam before behind (encode es) (width * n + width) (width * length es) lp
+    (seam before behind (reportOctets es) (width * n + width) (width * length es) lp
     ∙ simp (drop-drop, append-assoc)))
 
 -- ---- the room at the end
 
-pub filled-short : (es : List Entry) (room : List ℕ) → fits es room ≡ false → filled es room ≡ room
+pub filled-short : (es : List Entry) (room : List ℕ) → enoughRoom es room ≡ false → filled es room ≡ room
 unfolding filled
 filled-short es room f = rw f
 
-pub filled-written : (es : List Entry) (room : List ℕ) → fits es room ≡ true → filled es room ≡ encode es ++ drop (width * length es) room
+pub filled-written : (es : List Entry) (room : List ℕ) → enoughRoom es room ≡ true → filled es room ≡ reportOctets es ++ drop (width * length es) room
 unfolding filled
 filled-written es room f = rw f
 
-pub encode-long : (es : List Entry) → length (encode es) ≡ width * length es
-unfolding encode
-encode-long [] = refl
-encode-long (e ∷ es) = omega (arith, encode-long es)
+pub report-long : (es : List Entry) → length (reportOctets es) ≡ width * length es
+unfolding reportOctets
+report-long [] = refl
+report-long (e ∷ es) = omega (arith, report-long es)
 
 pub filled-long : (es : List Entry) (room : List ℕ) → length (filled es room) ≡ length room
-filled-long es room = go (fits es room) refl
+filled-long es room = go (enoughRoom es room) refl
   where
-    go : (b : Bool) → fits es room ≡ b → length (filled es room) ≡ length room
+    go : (b : Bool) → enoughRoom es room ≡ b → length (filled es room) ≡ length room
     go true t =
         let h : width * length es ≤ length room = leb-true _ _ t in
-        ap length (filled-written es room t) ∙ simp (length-append, length-drop, encode-long es) (omega arith)
+        ap length (filled-written es room t) ∙ simp (length-append, length-drop, report-long es) (omega arith)
     go false f = ap length (filled-short es room f)
 
-pub filled-report : (es : List Entry) (room : List ℕ) → fits es room ≡ true → take (width * length es) (filled es room) ≡ encode es
+pub filled-report : (es : List Entry) (room : List ℕ) → enoughRoom es room ≡ true → take (width * length es) (filled es room) ≡ reportOctets es
 filled-report es room t =
     let n : ℕ = width * length es in
-    ap (λ (l : List ℕ). take n l) (filled-written es room t) ∙ take-at (encode es) (drop n room) n (encode-long es)
+    ap (λ (l : List ℕ). take n l) (filled-written es room t) ∙ take-at (reportOctets es) (drop n room) n (report-long es)
 
-pub fits-room : (es : List Entry) (room other : List ℕ) → length room ≡ length other → fits es room ≡ fits es other
-fits-room es room other e = ap (λ (n : ℕ). leb (width * length es) n) e
+pub enough-by-length : (es : List Entry) (room other : List ℕ) → length room ≡ length other → enoughRoom es room ≡ enoughRoom es other
+enough-by-length es room other e = ap (λ (n : ℕ). leb (width * length es) n) e
 
 -- ---- the two passes
 
@@ -140,17 +140,17 @@ module _ (es : List Entry) (room : List ℕ) {n : ℕ} {left : List ℕ} {fit : 
       let l : length (left ++ room) ≡ length room = ap length same-room in
       let k = leb-false (width * n) (length (left ++ room)) (sym t ∙ f) in
       let o : length room < width * length es = counted-over es (length room) (omega arith) in
-      let short : fits es room ≡ false = lt-leb (width * length es) (length room) o in
+      let short : enoughRoom es room ≡ false = lt-leb (width * length es) (length room) o in
       record { short = short; bytes = same-room ∙ sym (filled-short es room short) }
 
-  pub pass-written : {m : ℕ} {last : List ℕ} → fit ≡ true → length room < 2 ^ 63 → Put es 0 (left ++ room) m last → Written es room n last
+  pub pass-written : {m : ℕ} {last : List ℕ} → fit ≡ true → length room < 2 ^ 63 → Put es 0 (left ++ room) m last → WrittenWhole es room n last
   pass-written f small q =
       let c = p .count in
       let l : length (left ++ room) ≡ length room = ap length same-room in
       let k = leb-true (width * n) (length (left ++ room)) (sym t ∙ f) in
       let e : counted es 0 ≡ length es = counted-right es (length room) small (omega arith) in
       let o : width * length es ≤ length room = omega arith in
-      let enough : fits es room ≡ true = le-leb (width * length es) (length room) o in
+      let enough : enoughRoom es room ≡ true = le-leb (width * length es) (length room) o in
       record {
         enough = enough;
         count = c ∙ e;
@@ -159,7 +159,7 @@ module _ (es : List Entry) (room : List ℕ) {n : ℕ} {left : List ℕ} {fit : 
             ∙ (rw (zero-add (length es)) (sym (filled-written es room enough)));
       }
 
-  pub pass-none : fit ≡ true → length room < 2 ^ 63 → n ≤ 0 → Written es room n (left ++ room)
+  pub pass-none : fit ≡ true → length room < 2 ^ 63 → n ≤ 0 → WrittenWhole es room n (left ++ room)
   pass-none f small z =
       let c = p .count in
       let e : es ≡ [] = counted-none es (omega arith) in

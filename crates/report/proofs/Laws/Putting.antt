@@ -2,26 +2,22 @@
 --     tick-below, tick-cap           a count goes up by one, unless it has reached the cap
 --     put-in, put-out                one entry, written or left out
 --     put-picked, put-not            an entry by a test
---     put-judged, put-unjudged       the entries of a rule that is judged under a condition
 --     put-noted                      an entry at an element
 --     nothing                        no entries
 --     _⨾_                            entries, and then others
 --     Rest                           loops: what is still to be put, against what was to be put at the start
 --     rest-start, rest-step, rest-last, rest-end
---     table-turn, table-end          a table of rules that a loop goes through
 -- Assumes nothing.
 use mathlib.Core.Path.{_≡_, refl, sym, subst, _∙_}
 use mathlib.Core.List.{List, [], _∷_, _++_}
 use mathlib.Core.Bool.{Bool, true, false}
 use Prim.Native.Nat.{ℕ, _+_, _*_, _/_, _≤_, _<_, _^_}
-use native.Mathlib.Numerals.{add-one}
 use native.Mathlib.Omega.{arith}
-use lib.ListN.{length, drop, getD, drop-of-length-le}
-use lib.Seq.{sets, drop-cons}
+use lib.ListN.{length}
+use lib.Seq.{sets}
 use borrow.Author.Tests.{lt-ltb, le-ltb, le-leb, lt-leb}
 use Rattle.report.specs.declared.sink.Entry.{Entry}
-use Rattle.report.specs.Entries.{width, octetsOf, entryIf, noted}
-use Rattle.report.specs.Forms.{onlyIf, joined}
+use Rattle.report.specs.Entries.{width, entryOctets, entryIf, noted}
 use Rattle.report.specs.Putting.{cap, tick, putOne, counted, putAll, Put}
 use Rattle.octets.proofs.Laws.Writing.{sets-append}
 use Rattle.octets.specs.Numbers.{pairOf}
@@ -49,7 +45,7 @@ module _ (e : Entry) (n : ℕ) (room : List ℕ) where
   put-in a b last h k p q r =
       let l : width * n + width ≤ length room = omega arith in
       let f : width * n + 2 + 2 ≡ width * n + 4 = omega arith in
-      let all : sets room (width * n) (octetsOf e) ≡ last
+      let all : sets room (width * n) (entryOctets e) ≡ last
       = sets-append (pairOf (e .rule)) (pairOf (e .place .start) ++ pairOf (e .place .len)) room (width * n)
       ∙ (rw (← p) (sets-append (pairOf (e .place .start)) (pairOf (e .place .len)) a (width * n + 2) ∙ rw (← q, f) (sym r))) in
       record { count = tick-below n (omega arith); bytes = rw (le-leb (width * n + width) (length room) l) (sym all) }
@@ -74,13 +70,6 @@ module _ {n r : ℕ} {room last : List ℕ} (e : Entry) (bad : Bool) where
 pub put-not : (e : Entry) (n : ℕ) (room : List ℕ) (bad : Bool) → bad ≡ false → Put (entryIf bad e) n room n room
 unfolding entryIf
 put-not e n room bad t = rw t (nothing n room)
-
--- a rule that is judged under a condition
-pub put-judged : {n r : ℕ} {room last : List ℕ} (es : List Entry) (judged : Bool) → judged ≡ true → Put es n room r last → Put (onlyIf judged es) n room r last
-put-judged es judged t p = rw t p
-
-pub put-unjudged : (es : List Entry) (n : ℕ) (room : List ℕ) (judged : Bool) → judged ≡ false → Put (onlyIf judged es) n room n room
-put-unjudged es n room judged t = rw t (nothing n room)
 
 -- the place is the element's
 pub put-noted : {n r : ℕ} {room last : List ℕ} (rule : ℕ) (bad : Bool) (h : Head) (place : Place) → place ≡ placeFrom (h .at) (h .end)
@@ -132,18 +121,3 @@ rest-last s p = record { count = p .count ∙ s .count; bytes = p .bytes ∙ s .
 
 pub rest-end : {all : List Entry} {n n₀ : ℕ} {a a₀ : List ℕ} → Rest [] n a all n₀ a₀ → Put all n₀ a₀ n a
 rest-end s = rest-last s (nothing _ _)
-
--- ---- a table of rules
-
-module _ (lists : List (List Entry)) (k : ℕ) where
-  next-list : k < length lists → joined (drop k lists) ≡ getD lists k [] ++ joined (drop (k + 1) lists)
-  unfolding joined
-  next-list h = rw (drop-cons lists k [] h, add-one k)
-
-  pub table-turn : {n m n₀ : ℕ} {a b a₀ : List ℕ} {all : List Entry} → k < length lists → Rest (joined (drop k lists)) n a all n₀ a₀
-      → Put (getD lists k []) n a m b → Rest (joined (drop (k + 1) lists)) m b all n₀ a₀
-  table-turn h rest p = rest-step (rw (next-list h) at rest) p
-
-  pub table-end : {n n₀ : ℕ} {a a₀ : List ℕ} {all : List Entry} → length lists ≤ k → Rest (joined (drop k lists)) n a all n₀ a₀ → Put all n₀ a₀ n a
-  unfolding joined
-  table-end h rest = rest-end (rw (drop-of-length-le lists h) at rest)

@@ -16,13 +16,13 @@ use native.Mathlib.Omega.{arith}
 use lib.ListN.{length, take, drop}
 use lib.Seq.{take-nil, getD-take, getD-drop}
 use Rattle.report.specs.declared.sink.Entry.{Entry}
+use Rattle.report.specs.Entries.{width, reportOctets, entryOf, decode}
+use Rattle.report.specs.Answers.{enoughRoom, filled}
+use Rattle.report.specs.Order.{In, Ordered, EntriesInside}
 use Rattle.octets.specs.Octets.{octetAt}
 use Rattle.octets.specs.Numbers.{pairAt}
 use Rattle.octets.specs.Places.{noPlace}
 use Rattle.octets.proofs.Laws.Octets.{past}
-use Rattle.report.specs.Entries.{width, encode, entryOf, decode}
-use Rattle.report.specs.Answers.{fits, filled}
-use Rattle.report.specs.Order.{In, Ordered, Inside}
 use Rattle.report.proofs.Laws.Passes.{filled-written}
 
 -- ---- one entry
@@ -113,8 +113,8 @@ pair-back n l =
     let h : n / 256 < 256 = omega arith in
     rw (mod-eq-of-lt h) (omega arith)
 
-read-all : (es : List Entry) (rest : List ℕ) → ((e : Entry) → In e es → Small e) → decode (length es) (encode es ++ rest) ≡ es
-unfolding decode encode entryOf
+read-all : (es : List Entry) (rest : List ℕ) → ((e : Entry) → In e es → Small e) → decode (length es) (reportOctets es ++ rest) ≡ es
+unfolding decode reportOctets entryOf
 read-all [] rest f = refl
 read-all (e ∷ es) rest f =
     let k = f e (List·Memᴰ·head refl) in
@@ -122,12 +122,12 @@ read-all (e ∷ es) rest f =
     (ap (λ (l : List Entry). e ∷ l) (read-all es rest (λ g m. f g (List·Memᴰ·tail m))))
 
 pub read-back : {from to limit : ℕ} {es : List Entry} (rest : List ℕ)
-    → Ordered from to es → to ≤ 65536 → Inside es limit → limit < 65536 → decode (length es) (encode es ++ rest) ≡ es
+    → Ordered from to es → to ≤ 65536 → EntriesInside es limit → limit < 65536 → decode (length es) (reportOctets es ++ rest) ≡ es
 read-back {from} {to} {limit} {es} rest o t i l = read-all es rest (λ e m. go e (o .rules e m) (i e m))
   where
     go : (e : Entry) → (from ≤ e .rule) × (e .rule < to) → e .place .start + e .place .len ≤ limit → Small e
     go e r k = (omega arith, omega arith, omega arith)
 
 pub report-back : {from to limit : ℕ} {es : List Entry} (room : List ℕ)
-    → Ordered from to es → to ≤ 65536 → Inside es limit → limit < 65536 → fits es room ≡ true → decode (length es) (filled es room) ≡ es
+    → Ordered from to es → to ≤ 65536 → EntriesInside es limit → limit < 65536 → enoughRoom es room ≡ true → decode (length es) (filled es room) ≡ es
 report-back {es = es} room o t i l f = rw (filled-written es room f) (read-back _ o t i l)

@@ -1,72 +1,53 @@
--- A rule over the slots: its loop, and what is in its list.
+-- A rule for each slot: the loop, and what is asked of them.
 --     slots-turn, slots-end      one slot more, and none left
---     slots-in                   an entry is in a rule's list over the slots exactly if it is in that of one slot from 1 to 10
+--     slots-ok                   what is asked of each is asked of all
 -- Assumes nothing.
-use mathlib.Core.Path.{_≡_, refl, subst}
-use mathlib.Core.List.{List, _++_, List·Memᴰ·not-nil, List·Memᴰ·append-cases, Memᴰ·append-left, Memᴰ·append-right}
-use mathlib.Core.Bool.{Bool, true, false}
-use mathlib.Core.Logic.{_↔_, ⊎-elim}
+use mathlib.Core.Path.{_≡_}
+use mathlib.Core.List.{List, [], _∷_, map}
 use Prim.Native.Nat.{ℕ, zero, suc, _+_, _-_, _≤_, _<_}
 use native.Mathlib.Omega.{arith}
-use lib.Dec.{leb}
-use borrow.Author.Tests.{leb-true, leb-false}
-use Rattle.report.specs.Order.{In}
-use Rattle.report.specs.Putting.{Put}
+use Rattle.certificate.specs.Slots.{numbersFrom, slotCount}
+use Rattle.der.specs.declared.header.Head.{Head}
+use Rattle.profiles.specs.declared.fields.Profile.{Profile}
+use Rattle.report.specs.Rows.{Row, findingsOf, Puts, RowOk, RowsOk}
+use Rattle.report.specs.Rows.RowsOk.{no-rows, more-rows}
 use Rattle.report.specs.declared.sink.Entry.{Entry}
-use Rattle.report.proofs.Laws.Putting.{Rest, rest-step, rest-end}
-use Rattle.rules_extensions.specs.Slots.{fromSlot, overSlots}
+use Rattle.report.proofs.Laws.Putting.{Rest}
+use Rattle.report.proofs.Laws.Rows.{rest-row, puts-rest}
 
-module _ (f : ℕ → List Entry) (slot : ℕ) where
-  opened : slot < 11 → fromSlot f slot (11 - slot) ≡ f slot ++ fromSlot f (slot + 1) (11 - (slot + 1))
-  unfolding fromSlot
-  opened l =
-      let e : 11 - slot ≡ suc (11 - (slot + 1)) = omega arith in
+-- the rules of the slots from k on
+unfoldable pub rowsFrom : (ℕ → Row) → ℕ → List Row
+rowsFrom f k = map f (numbersFrom k (slotCount - k))
+
+module _ (f : ℕ → Row) (k : ℕ) where
+  one-more : k < slotCount → rowsFrom f k ≡ f k ∷ rowsFrom f (k + 1)
+  unfolding rowsFrom numbersFrom
+  one-more l =
+      let e : slotCount - k ≡ suc (slotCount - (k + 1)) = omega arith in
       rw e
 
-  module _ {n n₀ : ℕ} {room room₀ : List ℕ} {all : List Entry} where
+  none-left : slotCount ≤ k → rowsFrom f k ≡ []
+  unfolding rowsFrom numbersFrom
+  none-left l =
+      let e : slotCount - k ≡ 0 = omega arith in
+      rw e
+
+  module _ (p : Profile) {n n₀ : ℕ} {room room₀ : List ℕ} where
     pub slots-turn :
-        {m : ℕ} {last : List ℕ} → slot < 11 → Rest (fromSlot f slot (11 - slot)) n room all n₀ room₀ → Put (f slot) n room m last
-        → Rest (fromSlot f (slot + 1) (11 - (slot + 1))) m last all n₀ room₀
-    slots-turn l r p = rest-step (rw (opened l) at r) p
+        {m : ℕ} {last : List ℕ} {all : List Entry} → k < slotCount → Rest (findingsOf p (rowsFrom f k)) n room all n₀ room₀
+        → Puts p (f k ∷ []) n room m last → Rest (findingsOf p (rowsFrom f (k + 1))) m last all n₀ room₀
+    slots-turn l r x = rest-row p (f k) (rowsFrom f (k + 1)) (rw (one-more l) at r) x
 
-    pub slots-end : 11 ≤ slot → Rest (fromSlot f slot (11 - slot)) n room all n₀ room₀ → Put all n₀ room₀ n room
-    unfolding fromSlot
-    slots-end l r =
-        let e : 11 - slot ≡ 0 = omega arith in
-        rest-end (rw e at r)
+    pub slots-end :
+        {rs : List Row} → slotCount ≤ k → Rest (findingsOf p (rowsFrom f k)) n room (findingsOf p rs) n₀ room₀ → Puts p rs n₀ room₀ n room
+    slots-end l r = puts-rest p (rw (none-left l) at r)
 
--- ---- what is in it
+module _ {P : Head → Type 0} (f : ℕ → Row) (ok : (k : ℕ) → k < slotCount → RowOk P (f k)) where
+  numbers-ok : (k n : ℕ) → k + n ≤ slotCount → RowsOk P (map f (numbersFrom k n))
+  unfolding numbersFrom
+  numbers-ok k zero l = no-rows
+  numbers-ok k (suc n) l = more-rows (ok k (omega arith)) (numbers-ok (k + 1) n (omega arith))
 
-module _ (f : ℕ → List Entry) (e : Entry) where
-  slot-of : (n slot : ℕ) → In e (fromSlot f slot n) → (k : ℕ) × (slot ≤ k) × (k < slot + n) × In e (f k)
-  unfolding fromSlot
-  slot-of zero slot m = absurd (List·Memᴰ·not-nil m)
-  slot-of (suc n) slot m =
-      ⊎-elim (λ (i : In e (f slot)). (slot, omega arith, omega arith, i))
-      (λ (i : In e (fromSlot f (slot + 1) n)). let p = slot-of n (slot + 1) i in (p .0, later (p .1), sooner n (p .2), p .3))
-      (List·Memᴰ·append-cases (f slot) m)
-    where
-      later : {k : ℕ} → slot + 1 ≤ k → slot ≤ k
-      later l = omega arith
-
-      sooner : (n : ℕ) {k : ℕ} → k < slot + 1 + n → k < slot + suc n
-      sooner n l = omega arith
-
-  of-slot : (n slot k : ℕ) → slot ≤ k → k < slot + n → In e (f k) → In e (fromSlot f slot n)
-  unfolding fromSlot
-  of-slot zero slot k l h i = absurd (omega arith)
-  of-slot (suc n) slot k l h i = go (of-slot n (slot + 1) k) (leb k slot) refl
-    where
-      go :
-          (slot + 1 ≤ k → k < slot + 1 + n → In e (f k) → In e (fromSlot f (slot + 1) n))
-          → (b : Bool) → leb k slot ≡ b → In e (f slot ++ fromSlot f (slot + 1) n)
-      go ih true t =
-          let a = leb-true k slot t in
-          let same : k ≡ slot = omega arith in
-          Memᴰ·append-left (fromSlot f (slot + 1) n) (subst (λ (j : ℕ). In e (f j)) same i)
-      go ih false t =
-          let a = leb-false k slot t in
-          Memᴰ·append-right (f slot) (ih (omega arith) (omega arith) i)
-
-  pub slots-in : In e (overSlots f) ↔ ((k : ℕ) × (1 ≤ k) × (k < 11) × In e (f k))
-  slots-in = (slot-of 10 1, λ p. of-slot 10 1 (p .0) (p .1) (p .2) (p .3))
+  pub slots-ok : RowsOk P (rowsFrom f 1)
+  unfolding rowsFrom
+  slots-ok = numbers-ok 1 (slotCount - 1) (omega arith)

@@ -10,7 +10,7 @@ use Prim.Native.Nat.{ℕ, _≤_, _<_}
 use native.Mathlib.Omega.{arith}
 use lib.Dec.{ltb, eqb}
 use borrow.Author.Tests.{ltb-true, ltb-false, eqb-true, eqb-false}
-use Rattle.rules_key.specs.Bits.{bitsFrom, wholeOf, modulusOf, exponentOf, isPositiveInteger, twoPositive, rsaBits, rsaKeyOf}
+use Rattle.rules_key.specs.Bits.{bitsFrom, sequenceIn, modulusOf, exponentOf, isPositiveInteger, twoPositive, rsaBits, rsaKeyOf}
 use Rattle.rules_key.specs.declared.bits.RsaKey.{RsaKey}
 use Rattle.octets.specs.Octets.{octetAt}
 use Rattle.octets.proofs.Laws.Tests.{and-l, and-r}
@@ -66,15 +66,15 @@ rsa-is s h from unused found sound whole m e a b fr un fo so wh mo ex pa pb =
 -- where rule 204 is kept, the SEQUENCE holds the modulus and the exponent, and no more
 pub rsa-members :
     (s : List ℕ) (h : Head) → rsaBits s h ≡ true
-    → childrenOf s (wholeOf s h .body) (wholeOf s h .end) ≡ modulusOf s h ∷ exponentOf s h ∷ []
+    → childrenOf s (sequenceIn s h .body) (sequenceIn s h .end) ≡ modulusOf s h ∷ exponentOf s h ∷ []
 unfolding rsaBits
 rsa-members s h t =
-    let body = wholeOf s h .body in
-    let end = wholeOf s h .end in
+    let body = sequenceIn s h .body in
+    let end = sequenceIn s h .end in
     let m = modulusOf s h in
     let e = exponentOf s h in
     let sound = isSound (stretchSoundness s (bitsFrom h) (h .end)) in
-    let sequence = eqb (wholeOf s h .tag) 48 in
+    let sequence = eqb (sequenceIn s h .tag) 48 in
     let two = twoPositive s (childrenOf s body end) in
     let positive = isPositiveInteger s m && isPositiveInteger s e in
     let holds = and-r sequence two (and-r sound (sequence && two) (and-r (eqb (octetAt s (h .body)) 0) (sound && (sequence && two)) t)) in

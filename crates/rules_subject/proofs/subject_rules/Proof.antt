@@ -1,20 +1,19 @@
 -- `rules_subject::subject_rules` meets its contract. Assumes nothing.
 use borrow.Author.Needs.{needs}
-use Rattle.report.proofs.Laws.Putting.{_⨾_}
-use Rattle.rules_subject.specs.Rules.{subjectFindings}
+use Rattle.rules_subject.specs.Rules.{subjectRows}
+use Rattle.report.proofs.Laws.Rows.{_⟫_}
 use Rattle.rules_subject.proofs.subject_rules.Statement.{statement}
 use Rattle.rules_subject.proofs.subject_rules.Tie as tie
 
 returns : tie.Need-returns
-unfolding subjectFindings
+unfolding subjectRows
 returns c =
-    let fourth = c .before .before in
-    let third = fourth .before .before .before .before in
+    let third = c .before .before in
     let second = third .before .before .before .before in
     let first = second .before .before .before .before in
-    first .every-subject .ensures ⨾ second .organization .ensures ⨾ third .state .ensures ⨾ fourth .name-and-sets .ensures
+    first .name-and-country .ensures ⟫ second .organization-and-state .ensures ⟫ third .name-and-sets .ensures
 
 pub subject-rules-spec : {M : Type 1} → statement M
 subject-rules-spec =
     tie.close
-    (tie.spec (λ c κs. tt) (λ c κs. tt) (λ c κs. tt) (λ c κs. tt) (λ c. search needs) returns)
+    (tie.spec (λ c κs. tt) (λ c κs. tt) (λ c κs. tt) (λ c. search needs) returns)

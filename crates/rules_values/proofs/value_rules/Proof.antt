@@ -1,12 +1,12 @@
 -- `rules_values::value_rules` meets its contract. Assumes nothing.
-use Rattle.rules_values.specs.Rules.{valueFindings}
-use Rattle.report.proofs.Laws.Putting.{_⨾_}
+use Rattle.rules_values.specs.Rules.{valueRows}
+use Rattle.report.proofs.Laws.Rows.{_⟫_}
 use Rattle.report.proofs.Laws.Loops.{room-kept}
 use Rattle.rules_values.proofs.value_rules.Statement.{statement}
 use Rattle.rules_values.proofs.value_rules.Tie as tie
 
 returns : tie.Need-returns
-unfolding valueFindings
+unfolding valueRows
 returns c =
     let seventh = c .before .before in
     let sixth = seventh .before .before .before .before in
@@ -16,14 +16,14 @@ returns c =
     let second = third .before .before .before .before in
     let first = second .before .before .before .before in
     first .identifier-rules .ensures
-    ⨾ second .usage-rules .ensures
-    ⨾ third .purpose-rules .ensures
-    ⨾ fourth .policy-rules .ensures
-    ⨾ fifth .host-rules .ensures
-    ⨾ sixth .access-rules .ensures
-    ⨾ seventh .point-rules .ensures
+    ⟫ second .usage-rules .ensures
+    ⟫ third .purpose-rules .ensures
+    ⟫ fourth .policy-rules .ensures
+    ⟫ fifth .host-rules .ensures
+    ⟫ sixth .access-rules .ensures
+    ⟫ seventh .point-rules .ensures
 
 pub value-rules-spec : {M : Type 1} → statement M
 value-rules-spec =
     tie.close
-    (tie.spec (λ c κs. tt) (λ c κs. tt) (λ c κs. tt) (λ c κs. tt) (λ c κs. tt) (λ c κs. tt) (λ c κs. tt) (λ c. room-kept (returns c)) returns)
+    (tie.spec (λ c κs. tt) (λ c κs. tt) (λ c κs. tt) (λ c κs. tt) (λ c κs. tt) (λ c κs. tt) (λ c κs. tt) (λ c. room-kept (returns c .put)) returns)

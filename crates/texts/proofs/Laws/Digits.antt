@@ -11,7 +11,7 @@ use native.Mathlib.Omega.{arith}
 use lib.ListN.{length, set, take, drop, length-set, length-drop, drop-of-length-le}
 use lib.Seq.{take-all, drop-cons, drop-set-lt, getD-set-same, append-snoc}
 use Rattle.texts.specs.Texts.{decimal}
-use Rattle.texts.specs.Putting.{Put}
+use Rattle.texts.specs.Putting.{Spelled}
 use Rattle.texts.proofs.Laws.Decimal.{one-digit, more-digits, tenth}
 
 -- those from place i on are written, and `rest` is left to be written before them
@@ -69,7 +69,7 @@ module _ {x : ℕ} {space : List ℕ} {rest i : ℕ} (w : Begun x space rest i) 
       (in-front rest ∙ ap (λ (l : List ℕ). l ++ drop i space) (sym (one-digit rest h)) ∙ w .digits, omega (arith, w .some, w .most))
 
 pub digits-put : (x at : ℕ) (space : List ℕ) {n r : ℕ} {out last : List ℕ}
-    → length space ≡ 20 → drop at space ≡ decimal x → Put (take (20 - at) (drop at space)) n out r last → Put (decimal x) n out r last
+    → length space ≡ 20 → drop at space ≡ decimal x → Spelled (take (20 - at) (drop at space)) n out r last → Spelled (decimal x) n out r last
 digits-put x at space {n} {r} {out} {last} l e p =
     let all : length (drop at space) ≤ 20 - at = simp (length-drop, l) (omega arith) in
-    subst (λ (t : List ℕ). Put t n out r last) (take-all (20 - at) (drop at space) all ∙ e) p
+    subst (λ (t : List ℕ). Spelled t n out r last) (take-all (20 - at) (drop at space) all ∙ e) p

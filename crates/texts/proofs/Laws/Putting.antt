@@ -16,19 +16,19 @@ use lib.ListN.{length, getD, set, take, drop, length-set, length-append}
 use lib.Seq.{sets, sets-eq, set-out, length-sets, take-suc, take-all}
 use lib.Dec.{ltb}
 use borrow.Author.Tests.{ltb-true, ltb-false}
-use Rattle.texts.specs.Putting.{placeAfter, bufferAfter, Put}
+use Rattle.texts.specs.Putting.{placeAfter, bufferAfter, Spelled}
 use Rattle.octets.proofs.Laws.Writing.{sets-append}
 
 module _ (b n : ℕ) (out : List ℕ) where
-  pub put-in : n < length out → Put (b ∷ []) n out (n + 1) (set out n b)
+  pub put-in : n < length out → Spelled (b ∷ []) n out (n + 1) (set out n b)
   unfolding placeAfter bufferAfter
   put-in h = record { place = omega arith; octets = refl }
 
-  pub put-out : length out ≤ n → Put (b ∷ []) n out n out
+  pub put-out : length out ≤ n → Spelled (b ∷ []) n out n out
   unfolding placeAfter bufferAfter
   put-out h = record { place = omega arith; octets = sym (set-out out n b h) }
 
-pub put-nothing : (n : ℕ) (out : List ℕ) → Put [] n out n out
+pub put-nothing : (n : ℕ) (out : List ℕ) → Spelled [] n out n out
 unfolding placeAfter bufferAfter
 put-nothing n out = record { place = omega arith; octets = refl }
 
@@ -38,7 +38,7 @@ sets-out : (vs l : List ℕ) (i : ℕ) → length l ≤ i → sets l i vs ≡ l
 sets-out [] l i h = refl
 sets-out (v ∷ vs) l i h = sets-out vs (set l i v) (suc i) (rw (length-set l i v) (omega arith)) ∙ set-out l i v h
 
-module _ {us vs : List ℕ} {n m r : ℕ} {x y z : List ℕ} (p : Put us n x m y) (q : Put vs m y r z) where
+module _ {us vs : List ℕ} {n m r : ℕ} {x y z : List ℕ} (p : Spelled us n x m y) (q : Spelled vs m y r z) where
   same-size : length y ≡ length x
   unfolding bufferAfter
   same-size = ap length (p .octets) ∙ length-sets x n us
@@ -60,7 +60,7 @@ module _ {us vs : List ℕ} {n m r : ℕ} {x y z : List ℕ} (p : Put us n x m y
           ap (λ (i : ℕ). sets y i vs) same
 
   infixr 20 _⨾_
-  pub _⨾_ : Put (us ++ vs) n x r z
+  pub _⨾_ : Spelled (us ++ vs) n x r z
   unfolding placeAfter bufferAfter
   _⨾_ =
       record {
@@ -72,7 +72,7 @@ module _ {us vs : List ℕ} {n m r : ℕ} {x y z : List ℕ} (p : Put us n x m y
 
 -- ---- the whole text
 
-module _ {bs : List ℕ} {n r : ℕ} {out last : List ℕ} (p : Put bs n out r last) where
+module _ {bs : List ℕ} {n r : ℕ} {out last : List ℕ} (p : Spelled bs n out r last) where
   pub put-whole : n + length bs ≤ length out → (r ≡ n + length bs) × (last ≡ take n out ++ bs ++ drop (n + length bs) out)
   unfolding placeAfter bufferAfter
   put-whole h = (p .place ∙ omega arith, p .octets ∙ sets-eq bs out n h)
@@ -82,14 +82,15 @@ module _ {bs : List ℕ} {n r : ℕ} {out last : List ℕ} (p : Put bs n out r l
   unfolding placeAfter
   put-inside h = let e : r ≡ max n (min (n + length bs) (length out)) = p .place in omega arith
 
-  pub one-answer : {r′ : ℕ} {last′ : List ℕ} → Put bs n out r′ last′ → (r ≡ r′) × (last ≡ last′)
+  pub one-answer : {r′ : ℕ} {last′ : List ℕ} → Spelled bs n out r′ last′ → (r ≡ r′) × (last ≡ last′)
   one-answer q = (p .place ∙ sym (q .place), p .octets ∙ sym (q .octets))
 
 -- ---- a text put octet by octet
 
 module _ (text : List ℕ) (i : ℕ) {n m : ℕ} {x y : List ℕ} where
-  pub put-next : {r : ℕ} {z : List ℕ} → i < length text → Put (take i text) n x m y → Put (getD text i 0 ∷ []) m y r z → Put (take (i + 1) text) n x r z
+  pub put-next : {r : ℕ} {z : List ℕ} → i < length text → Spelled (take i text) n x m y
+      → Spelled (getD text i 0 ∷ []) m y r z → Spelled (take (i + 1) text) n x r z
   put-next h p q = rw (add-one i, take-suc text i 0 h) (p ⨾ q)
 
-  pub put-all : length text ≤ i → Put (take i text) n x m y → Put text n x m y
+  pub put-all : length text ≤ i → Spelled (take i text) n x m y → Spelled text n x m y
   put-all h p = rw (take-all i text h) at p

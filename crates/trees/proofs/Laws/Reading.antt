@@ -10,7 +10,7 @@ use Prim.Native.Nat.{ℕ, zero, suc, _+_, _-_, _≤_, _<_}
 use native.Mathlib.Omega.{arith}
 use lib.ListN.{length, length-append}
 use lib.Dec.{leb}
-use Rattle.trees.specs.Trees.{Tag, Tree, Trees, primitive, constructed, nothing, _then_, identifierOctet, element, encode, encodeAll, Good, AllGood, height, heightAll, Ascending, encodings, setOf, Ordered, AllOrdered}
+use Rattle.trees.specs.Trees.{Tag, Tree, Trees, primitive, constructed, nothing, _then_, identifierOctet, element, encode, encodeAll, Good, AllGood, height, heightAll, Ascending, encodings, setTag, SetsOrdered, AllSetsOrdered}
 use Rattle.trees.specs.Reading.{tagOf, treesOf, treeOf}
 use Rattle.trees.specs.Outline.{lineOf, outline, outlineAll}
 use Rattle.der.specs.Header.{wholeHead, headOf, childrenOf}
@@ -34,7 +34,7 @@ pub record Here (s : List ℕ) (d at : ℕ) (t : Tree) (h : Head) : Type 0 where
   pub same : treeOf s d h ≡ t
   pub past : h .end ≡ at + length (encode t)
   pub part : octetsOf s h ≡ encode t
-  pub order : None (unordered s) (elementsOf s d h) ↔ Ordered t
+  pub order : None (unordered s) (elementsOf s d h) ↔ SetsOrdered t
   pub lines : (depth : ℕ) → depth + d ≡ 17 → map lineOf (elementsOf s d h) ≡ outline t depth at
 
 -- the same of several, one behind the other
@@ -42,7 +42,7 @@ record Back (s : List ℕ) (d at : ℕ) (ts : Trees) (hs : List Head) : Type 0 w
   pub sound : None (faulty s) (joined (elementsOf s d) hs)
   pub same : treesOf (treeOf s d) hs ≡ ts
   pub parts : map (octetsOf s) hs ≡ encodings ts
-  pub order : None (unordered s) (joined (elementsOf s d) hs) ↔ AllOrdered ts
+  pub order : None (unordered s) (joined (elementsOf s d) hs) ↔ AllSetsOrdered ts
   pub lines : (depth : ℕ) → depth + d ≡ 17 → map lineOf (joined (elementsOf s d) hs) ≡ outlineAll ts depth at
 
 abbrev pub ReadsOne : ℕ → Type 0
@@ -82,7 +82,7 @@ module _ (s : List ℕ) (d at end identifier : ℕ) (c : List ℕ) (r : Reads s 
 
 read-plain : (d : ℕ) (s : List ℕ) (at end : ℕ) (tag : Tag) (c rest : List ℕ) → end ≤ length s → Good (primitive tag c)
     → octetsFrom s at (end - at) ≡ encode (primitive tag c) ++ rest → Here s (suc d) at (primitive tag c) (headOf s at end)
-unfolding Good encode Ordered outline first
+unfolding Good encode SetsOrdered outline first
 read-plain d s at end tag c rest w g e =
     let id = identifierOctet 0 tag in
     let low = g .0 .0 in
@@ -104,7 +104,7 @@ read-plain d s at end tag c rest w g e =
 
 -- the order of a SET's members, by the octets that are read and by the tree
 set-order : (tag : Tag) (ts : Trees) (xs : List (List ℕ)) → tag .number < 31 → AllGood ts → xs ≡ encodings ts
-    → (identifierOctet 1 tag ≡ 49 → ascending xs ≡ true) ↔ (tag ≡ setOf → Ascending (encodings ts))
+    → (identifierOctet 1 tag ≡ 49 → ascending xs ≡ true) ↔ (tag ≡ setTag → Ascending (encodings ts))
 set-order tag ts xs low g p =
     let a = ascending-same ts g in (
       (λ f e. a .0 (sym (ap ascending p) ∙ f (ap (identifierOctet 1) e))),
@@ -114,7 +114,7 @@ set-order tag ts xs low g p =
 read-list : (d : ℕ) → ReadsAll d → (s : List ℕ) (at end : ℕ) (tag : Tag) (ts : Trees) (rest : List ℕ) → end ≤ length s
     → Good (constructed tag ts) → height (constructed tag ts) ≤ suc d → octetsFrom s at (end - at) ≡ encode (constructed tag ts) ++ rest
     → Here s (suc d) at (constructed tag ts) (headOf s at end)
-unfolding Good encode height Ordered outline
+unfolding Good encode height SetsOrdered outline
 read-list d all s at end tag ts rest w g k e =
     let id = identifierOctet 1 tag in
     let c = encodeAll ts in
@@ -154,12 +154,12 @@ read-one d all s at end (constructed tag ts) rest w g k e = read-list d all s at
 -- ---- several, one behind the other
 
 read-none : (d : ℕ) (s : List ℕ) (at : ℕ) → Back s d at nothing []
-unfolding treesOf encodings AllOrdered outlineAll first
+unfolding treesOf encodings AllSetsOrdered outlineAll first
 read-none d s at = record { sound = refl; same = refl; parts = refl; order = ((λ x. tt), λ x. refl); lines = λ depth k. refl }
 
 read-next : (d : ℕ) (s : List ℕ) (at : ℕ) (t : Tree) (ts : Trees) (h : Head) (hs : List Head) → Here s d at t h → Back s d (h .end) ts hs
     → Back s d at (t then ts) (h ∷ hs)
-unfolding treesOf encodings AllOrdered outlineAll
+unfolding treesOf encodings AllSetsOrdered outlineAll
 read-next d s at t ts h hs one more =
     let join = none-join (unordered s) (elementsOf s d h) (joined (elementsOf s d) hs) in
     record {

@@ -7,7 +7,7 @@ use Prim.Native.Nat.{ℕ, _-_, _≤_}
 use native.Mathlib.Nat.{le-refl}
 use native.Mathlib.Omega.{arith}
 use lib.ListN.{length}
-use Rattle.trees.specs.Trees.{Tree, encode, Good, Ordered}
+use Rattle.trees.specs.Trees.{Tree, encode, Good, SetsOrdered}
 use Rattle.trees.specs.Reading.{treeOf, parse}
 use Rattle.trees.specs.Outline.{outlineOf, outline, Rises}
 use Rattle.trees.specs.Statement.{Encodes, Faultless, Exactly, Faithful, Outlined}
@@ -15,7 +15,7 @@ use Rattle.octets.specs.Octets.{Octets, octetsFrom}
 use Rattle.octets.proofs.Laws.Octets.{octets-long}
 use Rattle.der.specs.Header.{headOf}
 use Rattle.der.specs.Elements.{elementsOf}
-use Rattle.der.specs.Soundness.{faulty, unordered, stretchSoundness, derSoundness, refusalNumber}
+use Rattle.der.specs.Soundness.{faulty, unordered, stretchSoundness, derSoundness, soundnessNumber}
 use Rattle.der.specs.declared.walk.Soundness.{Soundness}
 use Rattle.der.specs.declared.walk.Soundness.the-variants.{Sound, Unsound, Unordered}
 use Rattle.trees.proofs.Laws.Element.{whole}
@@ -63,7 +63,7 @@ module _ (s : List ℕ) (at end : ℕ) where
     faultless-of : Faultless (stretchSoundness s at end) ↔ ((t : Tree) × Encodes t (octetsFrom s at (end - at)))
     faultless-of = ((λ f. (treeOf s 16 (headOf s at end), written f)), λ p. stretch-form .1 (read-end w (p .0) (p .1), read-stretch w (p .0) (p .1) .sound))
 
-    sound-of : (stretchSoundness s at end ≡ Sound) ↔ ((t : Tree) × Encodes t (octetsFrom s at (end - at)) × Ordered t)
+    sound-of : (stretchSoundness s at end ≡ Sound) ↔ ((t : Tree) × Encodes t (octetsFrom s at (end - at)) × SetsOrdered t)
     sound-of = (
       (λ f.
           let g = stretch-both .0 f in
@@ -76,7 +76,7 @@ module _ (s : List ℕ) (at end : ℕ) where
 
 -- ---- all the octets
 
-sound-all : (s : List ℕ) → Octets s → (derSoundness s ≡ Sound) ↔ ((t : Tree) × Encodes t s × Ordered t)
+sound-all : (s : List ℕ) → Octets s → (derSoundness s ≡ Sound) ↔ ((t : Tree) × Encodes t s × SetsOrdered t)
 sound-all s o =
     let p = sound-of s 0 (length s) o (le-refl (length s)) in (
       (λ f. let q = p .0 f in (q .0, subst (Encodes (q .0)) (whole s) (q .1), q .2)),
@@ -101,20 +101,20 @@ parse-of t g =
 read-as : (s : List ℕ) (t : Tree) → Encodes t s → parse s ≡ t
 read-as s t e = ap parse (sym (e .2)) ∙ parse-of t (e .0)
 
-unordered-all : (s : List ℕ) → Octets s → (refusalNumber (derSoundness s) ≡ 5) ↔ ((t : Tree) × Encodes t s × (Ordered t → ⊥))
+unordered-all : (s : List ℕ) → Octets s → (soundnessNumber (derSoundness s) ≡ 5) ↔ ((t : Tree) × Encodes t s × (SetsOrdered t → ⊥))
 unordered-all s o = (
   (λ e.
       let p = faultless-all s o .0 (λ f. omega arith) in
-      (p .0, p .1, λ r. let n = ap refusalNumber (sound-all s o .1 (p .0, p .1, r)) in omega arith)),
+      (p .0, p .1, λ r. let n = ap soundnessNumber (sound-all s o .1 (p .0, p .1, r)) in omega arith)),
   λ p. go p (derSoundness s) refl,
 )
   where
-    go : ((t : Tree) × Encodes t s × (Ordered t → ⊥)) → (v : Soundness) → derSoundness s ≡ v → refusalNumber (derSoundness s) ≡ 5
+    go : ((t : Tree) × Encodes t s × (SetsOrdered t → ⊥)) → (v : Soundness) → derSoundness s ≡ v → soundnessNumber (derSoundness s) ≡ 5
     go p Sound e =
         let q = sound-all s o .0 e in
-        absurd (p .2 (subst Ordered (sym (read-as s (q .0) (q .1)) ∙ read-as s (p .0) (p .1)) (q .2)))
-    go p (Unsound k) e = absurd (faultless-all s o .1 (p .0, p .1) (ap refusalNumber e))
-    go p (Unordered k) e = ap refusalNumber e
+        absurd (p .2 (subst SetsOrdered (sym (read-as s (q .0) (q .1)) ∙ read-as s (p .0) (p .1)) (q .2)))
+    go p (Unsound k) e = absurd (faultless-all s o .1 (p .0, p .1) (ap soundnessNumber e))
+    go p (Unordered k) e = ap soundnessNumber e
 
 -- ---- the statements
 
@@ -134,7 +134,7 @@ faithful =
       encode-octets = encode-octets;
       parse-encode = parse-of;
       encodes-parse = λ s o f. let p = faultless-all s o .0 f in subst (λ (t : Tree). Encodes t s) (sym (read-as s (p .0) (p .1))) (p .1);
-      ordered-parse = λ s o f. let p = sound-all s o .0 f in subst Ordered (sym (read-as s (p .0) (p .1))) (p .2);
+      ordered-parse = λ s o f. let p = sound-all s o .0 f in subst SetsOrdered (sym (read-as s (p .0) (p .1))) (p .2);
       one-tree = λ t u g h e. sym (parse-of t g) ∙ (ap parse e ∙ parse-of u h);
       no-beginning = encode-alone;
     }

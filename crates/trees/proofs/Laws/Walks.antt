@@ -21,7 +21,7 @@ use Rattle.der.specs.Header.{headOf, childrenOf}
 use Rattle.der.specs.Contents.{constructed as isConstructed, contentsOf, elementOk}
 use Rattle.der.specs.Order.{ascendFrom, ascending, octetsOf}
 use Rattle.der.specs.Elements.{Node, elementsOf, membersOf}
-use Rattle.der.specs.Soundness.{faulty, unordered, Found, first, judge, soundness, stretchSoundness, refusalNumber}
+use Rattle.der.specs.Soundness.{faulty, unordered, Found, first, judge, soundness, stretchSoundness, soundnessNumber}
 use Rattle.der.specs.Soundness.Found.{nothing, found}
 use Rattle.der.specs.declared.header.Head.{Head}
 use Rattle.der.specs.declared.walk.Soundness.{Soundness}
@@ -53,11 +53,11 @@ none-join p (x ∷ xs) ys =
 
 -- ---- their verdict
 
-pub form-none : (s : List ℕ) (ns : List Node) → (refusalNumber (soundness s ns) ≡ 4 → ⊥) ↔ None (faulty s) ns
+pub form-none : (s : List ℕ) (ns : List Node) → (soundnessNumber (soundness s ns) ≡ 4 → ⊥) ↔ None (faulty s) ns
 unfolding soundness
 form-none s ns = go (first (faulty s) ns) (first (unordered s) ns)
   where
-    go : (a b : Found) → (refusalNumber (judge a b) ≡ 4 → ⊥) ↔ (a ≡ nothing)
+    go : (a b : Found) → (soundnessNumber (judge a b) ≡ 4 → ⊥) ↔ (a ≡ nothing)
     go nothing nothing = ((λ e. refl), λ e f. omega arith)
     go nothing (found q) = ((λ e. refl), λ e f. omega arith)
     go (found p) b = ((λ e. absurd (e refl)), λ e f. let n : _≡_ {A = ℕ} 0 1 = cc in omega arith)

@@ -22,9 +22,9 @@ use Rattle.lint.specs.declared.judging.Judgement.the-variants as Judgements
 use Rattle.lint.proofs.Laws.Bounds.{admission-nowhere}
 use Rattle.blocks.specs.Record.{recordOf, parts}
 use Rattle.writer.specs.Cutting.{blocksOf}
-use Rattle.writer.specs.Answers.{byRoom, byAdmission, writeAnswer, roomAfter, writeRoom, Written}
-use Rattle.writer.specs.declared.writing.Answer.{Answer}
-use Rattle.writer.specs.declared.writing.Answer.the-variants.{Blocks, Refused}
+use Rattle.writer.specs.Answers.{byRoom, byAdmission, writeAnswer, roomWritten, writeRoom, Written}
+use Rattle.writer.specs.declared.writing.Placing.{Placing}
+use Rattle.writer.specs.declared.writing.Placing.the-variants.{Blocks, Refused}
 
 -- what is refused is no number of blocks
 refused : (r : Refusal) (count : ℕ) → Refused r ≡ Blocks count → ⊥
@@ -68,13 +68,13 @@ module _ (number profile : ℕ) (certificate issuer room : List ℕ) where
       admission-taken (admissionOf (length certificate) (length issuer) profile) number count (length room)
       (parts (length (recordOf profile certificate issuer))) e
 
-  pub answered : (r : Answer) (last : List ℕ) → writeAnswer number profile certificate issuer room ≡ r
-      → last ≡ roomAfter r (blocksOf number (recordOf profile certificate issuer)) room → Written number profile certificate issuer room r last
+  pub answered : (r : Placing) (last : List ℕ) → writeAnswer number profile certificate issuer room ≡ r
+      → last ≡ roomWritten r (blocksOf number (recordOf profile certificate issuer)) room → Written number profile certificate issuer room r last
   unfolding writeRoom
   answered r last e b = record { told = sym e; bytes = rw e b }
 
 -- the linter's 1, 2 and 3, then 8 and 7, which look into no side
-abbrev Nowhere : Answer → Type 0
+abbrev Nowhere : Placing → Type 0
 Nowhere (Refused r) = placeOf r ≡ 0
 Nowhere (Blocks count) = Unit {0}
 

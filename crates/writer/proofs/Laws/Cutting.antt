@@ -1,7 +1,7 @@
 -- A record cut into blocks.
 --     from-count, from-long, from-snoc, from-front     k blocks from a part on: how many, how long, one more, and that they hold
 --                                                      no more than k * 502 octets of the data
---     joined-append, joined-length                     blocks one behind the other
+--     end-to-end-append, end-to-end-length             blocks one behind the other
 --     filled-length                                    a record with its fill has whole parts
 --     blocks-count, blocks-long, blocks-length         the blocks of a record
 -- Assumes nothing.
@@ -14,20 +14,20 @@ use lib.Seq.{drop-drop, length-take-le, take-append-le, drop-append-le}
 use Rattle.blocks.specs.Block.{blockOf}
 use Rattle.blocks.specs.Record.{parts}
 use Rattle.blocks.proofs.Laws.Block.{block-length}
-use Rattle.writer.specs.Cutting.{zeroFilled, blocksFrom, blocksOf, joined}
+use Rattle.writer.specs.Cutting.{zeroFilled, blocksFrom, blocksOf, endToEnd}
 
 -- each block has 512 octets
 abbrev pub AllLong : List (List ℕ) → Type 0
 AllLong [] = Unit {0}
 AllLong (b ∷ bs) = (length b ≡ 512) × AllLong bs
 
-pub joined-append : (xs ys : List (List ℕ)) → joined (xs ++ ys) ≡ joined xs ++ joined ys
-joined-append [] ys = refl
-joined-append (x ∷ xs) ys = ap (λ (l : List ℕ). x ++ l) (joined-append xs ys) ∙ sym (append-assoc x (joined xs) (joined ys))
+pub end-to-end-append : (xs ys : List (List ℕ)) → endToEnd (xs ++ ys) ≡ endToEnd xs ++ endToEnd ys
+end-to-end-append [] ys = refl
+end-to-end-append (x ∷ xs) ys = ap (λ (l : List ℕ). x ++ l) (end-to-end-append xs ys) ∙ sym (append-assoc x (endToEnd xs) (endToEnd ys))
 
-pub joined-length : (bs : List (List ℕ)) → AllLong bs → length (joined bs) ≡ length bs * 512
-joined-length [] h = refl
-joined-length (b ∷ bs) h = rw length-append (omega (arith, h .0, joined-length bs (h .1)))
+pub end-to-end-length : (bs : List (List ℕ)) → AllLong bs → length (endToEnd bs) ≡ length bs * 512
+end-to-end-length [] h = refl
+end-to-end-length (b ∷ bs) h = rw length-append (omega (arith, h .0, end-to-end-length bs (h .1)))
 
 module _ (number n : ℕ) where
   pub from-count : (k j : ℕ) (d : List ℕ) → length (blocksFrom number n j k d) ≡ k
@@ -75,5 +75,5 @@ module _ (p : List ℕ) where
       unfolding blocksOf
       blocks-long = from-long number (length p) hnumber hp (parts (length p)) 0 (zeroFilled p) (omega (arith, filled-length))
 
-      pub blocks-length : length (joined (blocksOf number p)) ≡ 512 * parts (length p)
-      blocks-length = omega (arith, joined-length (blocksOf number p) blocks-long, blocks-count)
+      pub blocks-length : length (endToEnd (blocksOf number p)) ≡ 512 * parts (length p)
+      blocks-length = omega (arith, end-to-end-length (blocksOf number p) blocks-long, blocks-count)

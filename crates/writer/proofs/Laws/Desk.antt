@@ -16,7 +16,7 @@ use Rattle.octets.specs.Copying.{copied}
 use Rattle.octets.proofs.Laws.Copying.{copied-paste}
 use Rattle.blocks.specs.Record.{recordOf, parts}
 use Rattle.blocks.proofs.Laws.Record.{record-length}
-use Rattle.writer.specs.Cutting.{zeroFilled, blocksFrom, blocksOf, joined}
+use Rattle.writer.specs.Cutting.{zeroFilled, blocksFrom, blocksOf, endToEnd}
 use Rattle.writer.proofs.Laws.Cutting.{from-front, filled-length}
 
 -- the whole of s copied to where `rest` begins
@@ -77,8 +77,8 @@ module _ (profile : ℕ) (certificate issuer : List ℕ) (count : ℕ) (all : co
 
   pub record-put : (number size : ℕ) (desk room last : List ℕ) → count * 502 ≤ size
       → desk ≡ recordOf profile certificate issuer ++ drop (3 + length certificate + length issuer) (replicate size 0)
-      → last ≡ joined (blocksFrom number (3 + length certificate + length issuer) 0 count desk) ++ drop (512 * count) room
-      → last ≡ joined (blocksOf number (recordOf profile certificate issuer)) ++ drop (512 * count) room
+      → last ≡ endToEnd (blocksFrom number (3 + length certificate + length issuer) 0 count desk) ++ drop (512 * count) room
+      → last ≡ endToEnd (blocksOf number (recordOf profile certificate issuer)) ++ drop (512 * count) room
   record-put number size desk room last h laid put =
       let p : List ℕ = recordOf profile certificate issuer in
       let n : 3 + length certificate + length issuer ≡ length p = sym (record-length profile certificate issuer) in
@@ -87,4 +87,4 @@ module _ (profile : ℕ) (certificate issuer : List ℕ) (count : ℕ) (all : co
       ap (λ (l : List ℕ). blocksFrom number (3 + length certificate + length issuer) 0 count l) lies
       ∙ ap₂ (λ (m k : ℕ). blocksFrom number m 0 k (p ++ drop {A = ℕ} (length p) (replicate size 0))) n all
       ∙ desk-blocks number p size (omega (arith, all, h)) in
-      put ∙ ap (λ (bs : List (List ℕ)). joined bs ++ drop (512 * count) room) blocks
+      put ∙ ap (λ (bs : List (List ℕ)). endToEnd bs ++ drop (512 * count) room) blocks

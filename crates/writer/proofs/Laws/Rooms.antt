@@ -15,8 +15,8 @@ use Rattle.octets.specs.Numbers.{pairOf, quadOf}
 use Rattle.octets.specs.Copying.{copied}
 use Rattle.octets.proofs.Laws.Copying.{copied-paste}
 use Rattle.blocks.specs.Block.{checkOf, bodyOf, blockOf}
-use Rattle.writer.specs.Cutting.{blocksFrom, joined}
-use Rattle.writer.proofs.Laws.Cutting.{from-count, from-long, from-snoc, joined-append, joined-length}
+use Rattle.writer.specs.Cutting.{blocksFrom, endToEnd}
+use Rattle.writer.proofs.Laws.Cutting.{from-count, from-long, from-snoc, end-to-end-append, end-to-end-length}
 
 pub check-put : (b : List ℕ) (check : ℕ) → length b ≡ 512 → check ≡ checkOf (take 510 b)
     → sets b 510 (pairOf check) ≡ take 510 b ++ pairOf (checkOf (take 510 b))
@@ -38,15 +38,15 @@ block-put number n j at desk b₀ b₁ b₂ b₃ hd h₀ e₁ e₂ e₃ =
     e₃ ∙ ap (λ (l : List ℕ). l ++ pairOf (checkOf l)) body
 
 module _ (number n j : ℕ) (d room₀ : List ℕ) (hnumber : number < 2 ^ 32) (hn : n < 65536) where
-  before-length : j * 502 ≤ length d → length (joined (blocksFrom number n 0 j d)) ≡ j * 512
+  before-length : j * 502 ≤ length d → length (endToEnd (blocksFrom number n 0 j d)) ≡ j * 512
   before-length h =
-      joined-length (blocksFrom number n 0 j d) (from-long number n hnumber hn j 0 d h) ∙ ap (λ (m : ℕ). m * 512) (from-count number n j 0 d)
+      end-to-end-length (blocksFrom number n 0 j d) (from-long number n hnumber hn j 0 d h) ∙ ap (λ (m : ℕ). m * 512) (from-count number n j 0 d)
 
-  pub room-step : (room block : List ℕ) → j * 502 + 502 ≤ length d → room ≡ joined (blocksFrom number n 0 j d) ++ drop (512 * j) room₀
+  pub room-step : (room block : List ℕ) → j * 502 + 502 ≤ length d → room ≡ endToEnd (blocksFrom number n 0 j d) ++ drop (512 * j) room₀
       → block ≡ blockOf number n j (take 502 (drop (j * 502) d))
-      → putMid (j * 512) (j * 512 + 512 - j * 512) room block ≡ joined (blocksFrom number n 0 (suc j) d) ++ drop (512 * suc j) room₀
+      → putMid (j * 512) (j * 512 + 512 - j * 512) room block ≡ endToEnd (blocksFrom number n 0 (suc j) d) ++ drop (512 * suc j) room₀
   room-step room block hd e b =
-      let J : List ℕ = joined (blocksFrom number n 0 j d) in
+      let J : List ℕ = endToEnd (blocksFrom number n 0 j d) in
       let X : List ℕ = drop (512 * j) room₀ in
       let lJ : length J ≡ j * 512 = before-length (omega arith) in
       let e₁ : j * 512 + 512 ≡ length J + 512 = omega arith in
@@ -59,13 +59,13 @@ module _ (number n j : ℕ) (d room₀ : List ℕ) (hnumber : number < 2 ^ 32) (
       ∙ drop-append-add J X 512
       ∙ drop-drop 512 (512 * j) room₀
       ∙ ap (λ (m : ℕ). drop m room₀) e₂ in
-      let more : joined (blocksFrom number n 0 (suc j) d) ≡ J ++ block =
-      ap joined (from-snoc number n j 0 d) ∙ joined-append (blocksFrom number n 0 j d) _
+      let more : endToEnd (blocksFrom number n 0 (suc j) d) ≡ J ++ block =
+      ap endToEnd (from-snoc number n j 0 d) ∙ end-to-end-append (blocksFrom number n 0 j d) _
       ∙ ap (λ (l : List ℕ). J ++ l) (append-nil _ ∙ ap (λ (m : ℕ). blockOf number n m (take 502 (drop (j * 502) d))) (omega arith) ∙ sym b) in
       ap₂ (λ (l r : List ℕ). l ++ (block ++ r)) front back
       ∙ sym (append-assoc J block (drop (512 * suc j) room₀))
       ∙ ap (λ (l : List ℕ). l ++ drop (512 * suc j) room₀) (sym more)
 
-  pub room-length : (room : List ℕ) → j * 502 ≤ length d → 512 * j ≤ length room₀ → room ≡ joined (blocksFrom number n 0 j d) ++ drop (512 * j) room₀
+  pub room-length : (room : List ℕ) → j * 502 ≤ length d → 512 * j ≤ length room₀ → room ≡ endToEnd (blocksFrom number n 0 j d) ++ drop (512 * j) room₀
       → length room ≡ length room₀
   room-length room hd hr e = ap length e ∙ simp (length-append, length-drop) (omega (arith, before-length hd))

@@ -23,16 +23,16 @@ use Rattle.lint.specs.declared.judging.Judgement.the-variants as Judgements
 use Rattle.lint.proofs.Laws.Accepted.{admitted-certificate, admitted-issuer}
 use Rattle.blocks.specs.Record.{recordOf, parts}
 use Rattle.blocks.proofs.Laws.Record.{record-length}
-use Rattle.writer.specs.Cutting.{blocksOf, joined}
+use Rattle.writer.specs.Cutting.{blocksOf, endToEnd}
 use Rattle.writer.specs.Answers.{writeAnswer, writeRoom, Written}
-use Rattle.writer.specs.declared.writing.Answer.{Answer}
-use Rattle.writer.specs.declared.writing.Answer.the-variants.{Blocks, Refused}
+use Rattle.writer.specs.declared.writing.Placing.{Placing}
+use Rattle.writer.specs.declared.writing.Placing.the-variants.{Blocks, Refused}
 use Rattle.writer.proofs.Laws.Cutting.{blocks-length}
 use Rattle.writer.proofs.Laws.Answers.{taken-only}
 
 -- ---- S11
 
-pub one-answer : {number profile : ℕ} {certificate issuer room last last′ : List ℕ} {r r′ : Answer}
+pub one-answer : {number profile : ℕ} {certificate issuer room last last′ : List ℕ} {r r′ : Placing}
     → Written number profile certificate issuer room r last → Written number profile certificate issuer room r′ last′ → (r ≡ r′) × (last ≡ last′)
 one-answer a b = (a .told ∙ sym (b .told), a .bytes ∙ sym (b .bytes))
 
@@ -69,7 +69,7 @@ module _ (number profile : ℕ) (certificate issuer room : List ℕ) where
   room-kept r e = rw e
 
   pub record Left (count : ℕ) (last : List ℕ) : Type 0 where
-    pub front : take (512 * count) last ≡ joined (blocksOf number (recordOf profile certificate issuer))
+    pub front : take (512 * count) last ≡ endToEnd (blocksOf number (recordOf profile certificate issuer))
     pub rest : drop (512 * count) last ≡ drop (512 * count) room
     pub as-long : length last ≡ length room
 
@@ -78,7 +78,7 @@ module _ (number profile : ℕ) (certificate issuer room : List ℕ) where
   unfolding writeRoom
   rest-kept count hnumber e =
       let t = taken-only number profile certificate issuer room count e in
-      let bs : List ℕ = joined (blocksOf number (recordOf profile certificate issuer)) in
+      let bs : List ℕ = endToEnd (blocksOf number (recordOf profile certificate issuer)) in
       let short : length (recordOf profile certificate issuer) < 65536 =
       omega (
         arith,

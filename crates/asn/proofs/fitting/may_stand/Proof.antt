@@ -19,7 +19,7 @@ returns-3 : tie.Need-returns-3
 returns-3 c =
     let i = c .before .before in
     let a = i .before .before .args in
-    stands-in-order (a .s .now) (a .h) (a .row) (i .if1 .left) (c .in-order .result) (c .before .if2 .left) (c .in-order .ensures)
+    stands-in-order (a .s .now) (a .h) (a .row) (i .if1 .left) (c .set-in-order .result) (c .before .if2 .left) (c .set-in-order .ensures)
 
 pub may-stand-spec : {M : Type 1} → statement M
 may-stand-spec =

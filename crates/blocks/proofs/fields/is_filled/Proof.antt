@@ -7,7 +7,7 @@ use lib.Dec.{eqb}
 use lib.ListN.{drop}
 use borrow.Author.Tests.{eq-eqb, ne-eqb}
 use Rattle.blocks.specs.Block.{dataOf}
-use Rattle.blocks.specs.Record.{zeros}
+use Rattle.blocks.specs.Record.{areZero}
 use Rattle.octets.specs.Octets.{octetAt}
 use Rattle.blocks.proofs.Laws.Logic.{and-not-left, and-passed}
 use Rattle.blocks.proofs.Laws.Fill.{fill-next, fill-done}
@@ -15,7 +15,7 @@ use Rattle.blocks.proofs.fields.is_filled.Statement.{statement}
 use Rattle.blocks.proofs.fields.is_filled.Tie as tie
 
 abbrev Inv-loop : tie.InvT-loop
-Inv-loop block used i₀ i = zeros (drop used (dataOf block)) ≡ zeros (drop i (dataOf block))
+Inv-loop block used i₀ i = areZero (drop used (dataOf block)) ≡ areZero (drop i (dataOf block))
 
 abbrev μ-loop : tie.MeasureT-loop
 μ-loop block used i₀ i = 502 - i
@@ -28,7 +28,7 @@ returns c =
     let l = c .before .before .before .loop in
     let b = c .before .before .before .before .before .args .block .now in
     let f : eqb (octetAt b (8 + l .i)) 0 ≡ false = ne-eqb _ _ (λ e. c .if1 .taken (c .before .octet-past .ensures ∙ e)) in
-    sym (l .inv ∙ fill-next b (l .i) (c .before .before .loop-test .taken) ∙ and-not-left (zeros (drop (l .i + 1) (dataOf b))) f)
+    sym (l .inv ∙ fill-next b (l .i) (c .before .before .loop-test .taken) ∙ and-not-left (areZero (drop (l .i + 1) (dataOf b))) f)
 
 add-i : tie.Need-add-i Inv-loop μ-loop
 add-i c = omega arith
@@ -41,7 +41,7 @@ loop-again c =
     let l = c .before .before .before .loop in
     let b = c .before .before .before .before .before .args .block .now in
     let t : eqb (octetAt b (8 + l .i)) 0 ≡ true = eq-eqb _ _ (sym (c .before .octet-past .ensures) ∙ c .if1 .left) in
-    l .inv ∙ fill-next b (l .i) (c .before .before .loop-test .taken) ∙ and-passed (zeros (drop (l .i + 1) (dataOf b))) t
+    l .inv ∙ fill-next b (l .i) (c .before .before .loop-test .taken) ∙ and-passed (areZero (drop (l .i + 1) (dataOf b))) t
 
 returns-2 : tie.Need-returns-2 Inv-loop μ-loop
 returns-2 c =

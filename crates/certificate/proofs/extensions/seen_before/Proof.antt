@@ -1,7 +1,7 @@
 -- `certificate::seen_before` meets its contract. Assumes nothing.
 use Prim.Native.Nat.{_-_}
 use Rattle.certificate.specs.Extensions.{sameIdentifier, seenBefore}
-use Rattle.der.proofs.Laws.Searching.{nearer, Search, search-start, search-found, search-next, search-end}
+use Rattle.der.proofs.Laws.Searching.{nearer, Search, search-start, search-true, search-next, search-false}
 use Rattle.certificate.proofs.extensions.seen_before.Statement.{statement}
 use Rattle.certificate.proofs.extensions.seen_before.Tie as tie
 
@@ -16,7 +16,7 @@ unfolding seenBefore
 returns c =
     let item = c .before .before in
     let test = item .before in
-    search-found _ (test .loop-test .taken) (item .head-at .ensures) (c .before .same-identifier .ensures) (c .if1 .taken) (test .before .loop .inv)
+    search-true _ (test .loop-test .taken) (item .head-at .ensures) (c .before .same-identifier .ensures) (c .if1 .taken) (test .before .loop .inv)
 
 loop-less : tie.Need-loop-less Inv-loop μ-loop
 loop-less c =
@@ -31,7 +31,7 @@ loop-again c =
 
 returns-2 : tie.Need-returns-2 Inv-loop μ-loop
 unfolding seenBefore
-returns-2 c = search-end (c .loop-test .left) (c .before .loop .inv)
+returns-2 c = search-false (c .loop-test .left) (c .before .loop .inv)
 
 pub seen-before-spec : {M : Type 1} → statement M
 seen-before-spec =

@@ -5,13 +5,13 @@ use Prim.Native.Nat.{_-_, _≤_}
 use native.Mathlib.Omega.{arith}
 use lib.ListN.{length, drop}
 use borrow.Author.Needs.{needs}
-use Rattle.deckpack.specs.Decimals.{largest, decimalFrom, decimalOf}
+use Rattle.deckpack.specs.Decimals.{largestNumber, decimalFrom, decimalOf}
 use Rattle.deckpack.proofs.Laws.Decimals.{append-taken, decimal-empty, decimal-begins, decimal-next, decimal-stops, decimal-done}
 use Rattle.deckpack.proofs.decimals.decimal_of.Statement.{statement}
 use Rattle.deckpack.proofs.decimals.decimal_of.Tie as tie
 
 abbrev Inv-loop : tie.InvT-loop
-Inv-loop text number₀ k₀ number k = (number ≤ largest) × (decimalOf text ≡ decimalFrom number (drop k text))
+Inv-loop text number₀ k₀ number k = (number ≤ largestNumber) × (decimalOf text ≡ decimalFrom number (drop k text))
 
 abbrev μ-loop : tie.MeasureT-loop
 μ-loop text number₀ k₀ number k = length text - k

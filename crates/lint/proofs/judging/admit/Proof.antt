@@ -7,18 +7,18 @@ use Rattle.lint.proofs.judging.admit.Tie as tie
 
 returns : tie.Need-returns
 unfolding admissionOf
-returns c = rw (← c .before .length-ok .ensures, not-true (c .before .length-ok .result) (c .if1 .taken))
+returns c = rw (← c .before .side-length-ok .ensures, not-true (c .before .side-length-ok .result) (c .if1 .taken))
 
 returns-2 : tie.Need-returns-2
 unfolding admissionOf
 returns-2 c =
     let first = c .before .before in
     rw (
-      ← first .before .length-ok .ensures,
-      not-false (first .before .length-ok .result) (first .if1 .left),
-      ← c .before .length-ok2
+      ← first .before .side-length-ok .ensures,
+      not-false (first .before .side-length-ok .result) (first .if1 .left),
+      ← c .before .side-length-ok2
           .ensures,
-      not-true (c .before .length-ok2 .result) (c .if2 .taken),
+      not-true (c .before .side-length-ok2 .result) (c .if2 .taken),
     )
 
 returns-3 : tie.Need-returns-3
@@ -28,11 +28,11 @@ returns-3 c =
     let second = asked .before in
     let first = second .before .before in
     rw (
-      ← first .before .length-ok .ensures,
-      not-false (first .before .length-ok .result) (first .if1 .left),
-      ← second .before .length-ok2
+      ← first .before .side-length-ok .ensures,
+      not-false (first .before .side-length-ok .result) (first .if1 .left),
+      ← second .before .side-length-ok2
           .ensures,
-      not-false (second .before .length-ok2 .result) (second .if2 .left),
+      not-false (second .before .side-length-ok2 .result) (second .if2 .left),
       ← asked .profile-of .ensures,
       c .enum-told .given .1,
     )
@@ -44,11 +44,11 @@ returns-4 c =
     let second = asked .before in
     let first = second .before .before in
     rw (
-      ← first .before .length-ok .ensures,
-      not-false (first .before .length-ok .result) (first .if1 .left),
-      ← second .before .length-ok2
+      ← first .before .side-length-ok .ensures,
+      not-false (first .before .side-length-ok .result) (first .if1 .left),
+      ← second .before .side-length-ok2
           .ensures,
-      not-false (second .before .length-ok2 .result) (second .if2 .left),
+      not-false (second .before .side-length-ok2 .result) (second .if2 .left),
       ← asked .profile-of .ensures,
       c .before .asked .given .1,
     )

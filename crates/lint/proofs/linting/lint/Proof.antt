@@ -8,7 +8,7 @@ returns : tie.Need-returns
 unfolding answerOf roomOf
 returns c =
     let told = c .before in
-    record { told = rw (← told .before .before .judge .ensures, told .judgement .given .1); bytes = rw (← told .before .before .judge .ensures, told .judgement .given .1) }
+    record { told = rw (← told .before .before .examine .ensures, told .judgement .given .1); bytes = rw (← told .before .before .examine .ensures, told .judgement .given .1) }
 
 returns-2 : tie.Need-returns-2
 unfolding answerOf roomOf
@@ -16,8 +16,8 @@ returns-2 c =
     let report = c .before .before in
     let told = report .before .before .before in
     record {
-      told = rw (← told .before .before .judge .ensures, told .judgement2 .given .1) (report .report-on .ensures .told);
-      bytes = rw (← told .before .before .judge .ensures, told .judgement2 .given .1) (report .report-on .ensures .bytes);
+      told = rw (← told .before .before .examine .ensures, told .judgement2 .given .1) (report .report-on .ensures .told);
+      bytes = rw (← told .before .before .examine .ensures, told .judgement2 .given .1) (report .report-on .ensures .bytes);
     }
 
 pub lint-spec : {M : Type 1} → statement M

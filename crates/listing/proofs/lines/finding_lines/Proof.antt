@@ -4,7 +4,7 @@ use Prim.Native.Nat.{_-_, _≤_}
 use native.Mathlib.Omega.{arith}
 use lib.ListN.{length}
 use borrow.Author.Needs.{needs}
-use Rattle.texts.specs.Putting.{Put}
+use Rattle.texts.specs.Putting.{Spelled}
 use Rattle.listing.specs.Listing.{findingLines}
 use Rattle.report.specs.Entries.{decode}
 use Rattle.listing.proofs.Laws.Findings.{no-findings, one-finding, all-findings}
@@ -12,7 +12,7 @@ use Rattle.listing.proofs.lines.finding_lines.Statement.{statement}
 use Rattle.listing.proofs.lines.finding_lines.Tie as tie
 
 abbrev Inv-loop : tie.InvT-loop
-Inv-loop out₀ n report count m₀ k₀ out m k = (length out ≡ length out₀) × (k ≤ count) × Put (findingLines (decode k report)) n out₀ m out
+Inv-loop out₀ n report count m₀ k₀ out m k = (length out ≡ length out₀) × (k ≤ count) × Spelled (findingLines (decode k report)) n out₀ m out
 
 abbrev μ-loop : tie.MeasureT-loop
 μ-loop out₀ n report count m₀ k₀ out m k = count - k

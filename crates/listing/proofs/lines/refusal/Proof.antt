@@ -12,7 +12,7 @@ returns c =
     let at = c .before .before in
     let side = at .before .before .before .before .before .before in
     let number = side .before .before .before .before .before .before in
-    (rw (number .before .number-of .ensures) at (number .field .ensures))
+    (rw (number .before .refusal-number .ensures) at (number .field .ensures))
     ⨾ (rw (side .before .side-of .ensures) at (side .field2 .ensures))
     ⨾ (rw (at .before .place-of .ensures) at (at .field3 .ensures))
 

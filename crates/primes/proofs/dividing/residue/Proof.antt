@@ -41,7 +41,7 @@ step-requires : tie.Need-step-requires Inv-loop μ-loop
 step-requires c κs =
     let g = c .before .before .before .before .before .before in
     let a = 2 ^ 32 % g .args .m in
-    (residue-below (2 ^ 32) (g .args .m) (g .pre .0) (g .pre .1), residue-below (a * a) (g .args .m) (g .pre .0) (g .pre .1), c .word .ensures .1)
+    (residue-below (2 ^ 32) (g .args .m) (g .pre .0) (g .pre .1), residue-below (a * a) (g .args .m) (g .pre .0) (g .pre .1), c .word-at .ensures .1)
 
 add-i-2 : tie.Need-add-i-2 Inv-loop μ-loop
 add-i-2 c = record { fits = omega arith }
@@ -53,8 +53,8 @@ loop-again : tie.Need-loop-again Inv-loop μ-loop
 loop-again c =
     let l = c .before .before .before in
     let a = l .before .before .before .before .args in
-    let t = more (a .s .now) (l .loop .i) (a .end) (l .loop .r) (a .m) (c .before .word .result) (c .step .result)
-    (c .before .before .loop-test .taken) (l .loop .inv .1) (c .before .word .ensures .0) (c .step .ensures) in
+    let t = more (a .s .now) (l .loop .i) (a .end) (l .loop .r) (a .m) (c .before .word-at .result) (c .step .result)
+    (c .before .before .loop-test .taken) (l .loop .inv .1) (c .before .word-at .ensures .0) (c .step .ensures) in
     (l .loop .inv .0 ∙ t .0, t .1)
 
 rem-result : tie.Need-rem-result Inv-loop μ-loop

@@ -1,16 +1,20 @@
--- `profiles::extensions::responder_mark` meets its contract. Assumes nothing.
-use borrow.Author.Tests.{eq-eqb, ne-eqb}
+-- `profiles::extensions::responder_mark` meets its contract: an arm a slot. Assumes nothing.
+use borrow.Author.Needs.{needs}
+use Rattle.profiles.specs.Extensions.{responderColumn}
+use Rattle.profiles.proofs.Laws.Extensions.{unlisted, further}
 use Rattle.profiles.proofs.extensions.responder_mark.Statement.{statement}
 use Rattle.profiles.proofs.extensions.responder_mark.Tie as tie
 
-returns : tie.Need-returns
-returns c = rw (eq-eqb _ 2 (c .if1 .taken))
-
-returns-2 : tie.Need-returns-2
-returns-2 c = rw (ne-eqb _ 2 (c .before .if1 .left), c .if2 .taken)
-
-returns-3 : tie.Need-returns-3
-returns-3 c = rw (ne-eqb _ 2 (c .before .if1 .left), c .if2 .left)
+returns-11 : tie.Need-returns-11
+returns-11 c =
+    let r = c .match .rest in
+    unlisted responderColumn (c .before .args .slot)
+    (λ l. further (further (further (further (further (further (further (further (further (further l (r .0 .0 .0 .0 .0 .0 .0 .0 .0 .1))
+    (r .0 .0 .0 .0 .0 .0 .0 .0 .1)) (r .0 .0 .0 .0 .0 .0 .0 .1)) (r .0 .0 .0 .0 .0 .0 .1))
+    (r .0 .0 .0 .0 .0 .1)) (r .0 .0 .0 .0 .1)) (r .0 .0 .0 .1)) (r .0 .0 .1)) (r .0 .1)) (r .1))
 
 pub responder-mark-spec : {M : Type 1} → statement M
-responder-mark-spec = tie.close (tie.spec returns returns-2 returns-3)
+responder-mark-spec =
+    tie.close
+    (tie.spec (λ c. search needs) (λ c. search needs) (λ c. search needs) (λ c. search needs) (λ c. search needs)
+    (λ c. search needs) (λ c. search needs) (λ c. search needs) (λ c. search needs) (λ c. search needs) returns-11)

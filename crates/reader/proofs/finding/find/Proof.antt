@@ -10,7 +10,7 @@ use Rattle.reader.specs.Events.{lossIf, lossOf}
 use Rattle.reader.specs.Finding.{foundAt}
 use Rattle.reader.specs.declared.finding.Loss.{Loss}
 use Rattle.reader.specs.declared.finding.Found.the-variants.{Record, Lost}
-use Rattle.blocks.specs.Block.{sound, numberOf, lengthOf}
+use Rattle.blocks.specs.Block.{sound, recordNumber, recordLength}
 use Rattle.reader.proofs.Laws.Found.{found-none, found-record, found-lost, block-inside, block-none, loss-short, loss-whole}
 use Rattle.reader.proofs.finding.find.Statement.{statement}
 use Rattle.reader.proofs.finding.find.Tie as tie
@@ -39,12 +39,12 @@ module _ (c : tie.Else2) where
       ∙ ap (λ (l : Loss). Lost l) e
 
 -- a whole block is lost by whether it is sound
-whole : (c : tie.After-is-sound) → lossOf (block (seen (c .before .before))) ≡ lossIf false (c .is-sound .result)
+whole : (c : tie.After-is-sound-block) → lossOf (block (seen (c .before .before))) ≡ lossIf false (c .is-sound-block .result)
 whole c =
     let s : tie.After-block-at = seen (c .before .before) in
     loss-whole (block s) (omega (arith, c .before .if3 .left, ap length (s .block-at .ensures)))
     ∙ ap (λ (b : List ℕ). lossIf false (sound b)) (sym (s .block-at .ensures))
-    ∙ ap (lossIf false) (sym (c .is-sound .ensures))
+    ∙ ap (lossIf false) (sym (c .is-sound-block .ensures))
 
 returns : tie.Need-returns
 returns c =
@@ -60,8 +60,8 @@ returns-2 c =
     sym (found-record (deck s) (position s) (inside (c .before .before .before .before))
     (sym (c .before .before .before .is-start .ensures) ∙ c .before .before .if2 .taken)
     ∙ ap₂ (λ (a b : ℕ). Record a b)
-    (ap numberOf (sym (s .block-at .ensures)) ∙ sym (c .before .number-of .ensures .0))
-    (ap lengthOf (sym (s .block-at .ensures)) ∙ sym (c .length-of .ensures .0)))
+    (ap recordNumber (sym (s .block-at .ensures)) ∙ sym (c .before .record-number .ensures .0))
+    (ap recordLength (sym (s .block-at .ensures)) ∙ sym (c .record-length .ensures .0)))
 
 returns-3 : tie.Need-returns-3
 returns-3 c =

@@ -7,14 +7,19 @@ use Rattle.reader.proofs.finding.is_part.Tie as tie
 returns : tie.Need-returns
 returns c =
     let a = c .before .before .before .before .before .before .before .args in
-    rw (c .before .before .before .number-of .ensures .0, c .before .before .length-of .ensures .0, c .before .part-of .ensures .0, c .is-clear .ensures)
+    rw (
+      c .before .before .before .record-number .ensures .0,
+      c .before .before .record-length .ensures .0,
+      c .before .part-of .ensures .0,
+      c .is-clear .ensures,
+    )
     (sym (part-by (a .number) (a .n) (a .j) (a .block .now)
-    (sym (c .before .before .before .before .before .is-sound .ensures) ∙ c .before .before .before .before .if1 .taken)))
+    (sym (c .before .before .before .before .before .is-sound-block .ensures) ∙ c .before .before .before .before .if1 .taken)))
 
 returns-2 : tie.Need-returns-2
 returns-2 c =
     let a = c .before .before .before .args in
-    sym (unsound-no-part (a .number) (a .n) (a .j) (a .block .now) (sym (c .before .is-sound .ensures) ∙ c .if1 .left))
+    sym (unsound-no-part (a .number) (a .n) (a .j) (a .block .now) (sym (c .before .is-sound-block .ensures) ∙ c .if1 .left))
 
 pub is-part-spec : {M : Type 1} → statement M
 is-part-spec =

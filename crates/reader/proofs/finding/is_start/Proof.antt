@@ -11,8 +11,8 @@ use borrow.Author.Needs.{needs}
 use borrow.Author.Tests.{not-true, not-false}
 use Rattle.reader.specs.Runs.{from, areParts, dataFrom, isWhole, run, starts}
 use Rattle.octets.specs.Numbers.{pairAt}
-use Rattle.blocks.specs.Block.{numberOf, lengthOf, dataOf}
-use Rattle.blocks.specs.Record.{isRecordLength, parts, zeros}
+use Rattle.blocks.specs.Block.{recordNumber, recordLength, dataOf}
+use Rattle.blocks.specs.Record.{isRecordLength, parts, areZero}
 use Rattle.reader.proofs.Laws.Starts.{starts-by, bad-head, good-length, bad-parts, good-parts, whole-by}
 use Rattle.reader.proofs.finding.is_start.Statement.{statement}
 use Rattle.reader.proofs.finding.is_start.Tie as tie
@@ -25,16 +25,16 @@ module _ (c : tie.After-is-record-length) where
   position = c .before .before .before .before .before .args .position
 
   abbrev number : ℕ
-  number = c .before .before .number-of .result
+  number = c .before .before .record-number .result
 
   abbrev n : ℕ
-  n = c .before .length-of .result
+  n = c .before .record-length .result
 
   by : starts (from deck position) ≡ run number n (from deck position)
   by =
       starts-by deck position number n (c .before .before .before .before .before .pre)
-      (ap numberOf (sym (c .before .before .before .block-at .ensures)) ∙ sym (c .before .before .number-of .ensures .0))
-      (ap lengthOf (sym (c .before .before .before .block-at .ensures)) ∙ sym (c .before .length-of .ensures .0))
+      (ap recordNumber (sym (c .before .before .before .block-at .ensures)) ∙ sym (c .before .before .record-number .ensures .0))
+      (ap recordLength (sym (c .before .before .before .block-at .ensures)) ∙ sym (c .before .record-length .ensures .0))
 
 -- a number and a length that a record may have
 module _ (c : tie.Else1) where
@@ -95,7 +95,7 @@ returns-3 c =
     ∙ ap (λ (m : ℕ). isWhole (n h) (dataFrom m (bs p))) (sym (p .before .parts-of .ensures))
     ∙ whole-by (number h) (n h) (k p) (deck h) (position h) (counted-parts p true t) (omega arith) (counted p .0) (counted p .1)
     ∙ ap₂ _&&_
-    (ap (λ (b : List ℕ). zeros (drop (n h - 502 * (k p - 1)) (dataOf b))) (sym (c .before .before .block-at2 .ensures)) ∙ sym (c .before .is-filled .ensures))
+    (ap (λ (b : List ℕ). areZero (drop (n h - 502 * (k p - 1)) (dataOf b))) (sym (c .before .before .block-at2 .ensures)) ∙ sym (c .before .is-filled .ensures))
     (ap (λ (m : ℕ). leb m (n h - 3)) (ap (λ (b : List ℕ). pairAt b 9) (sym (h .before .before .before .block-at .ensures)) ∙ sym (c .pair .ensures .0))))
 
 pub is-start-spec : {M : Type 1} → statement M

@@ -1,23 +1,33 @@
--- `rules_extensions::slots::over_slots` meets its contract. Assumes nothing.
+-- `rules_extensions::slots::over_slots` meets its contract. The invariant: the rules of the slots from this one on are still to be put. Assumes nothing.
 use mathlib.Core.Path.{_≡_, refl, _∙_}
-use Prim.Native.Nat.{_-_, _≤_}
-use lib.ListN.{length}
+use mathlib.Core.List.{List}
+use Prim.Native.Nat.{ℕ, _-_, _≤_}
+use lib.ListN.{length, getD}
 use borrow.Author.Needs.{needs}
+use Rattle.rules_extensions.specs.Slots.{rowAt, rowsOver}
+use Rattle.rules_extensions.specs.declared.slots.Question.{Question}
+use Rattle.der.specs.Members.{missing}
+use Rattle.der.specs.declared.header.Head.{Head}
+use Rattle.profiles.specs.declared.fields.Profile.{Profile}
+use Rattle.certificate.specs.Slots.{slotCount, emptySlot}
+use Rattle.certificate.specs.declared.slots.Slot.{Slot}
+use Rattle.report.specs.Rows.{Row, findingsOf}
 use Rattle.report.proofs.Laws.Putting.{Rest, rest-start}
-use Rattle.rules_extensions.specs.Slots.{fromSlot, slotFindings, overSlots}
-use Rattle.rules_extensions.proofs.Laws.Slots.{slots-turn, slots-end}
+use Rattle.rules_extensions.proofs.Laws.Slots.{rowsFrom, slots-turn, slots-end}
 use Rattle.rules_extensions.proofs.slots.over_slots.Statement.{statement}
 use Rattle.rules_extensions.proofs.slots.over_slots.Tie as tie
 
+abbrev rowIn : Question → Profile → Head → List Slot → ℕ → Row
+rowIn question p list each k = rowAt question p list k (getD each k (emptySlot (missing 0)))
+
 abbrev Inv-loop : tie.InvT-loop
-Inv-loop room₀ n question p s c starts values count₀ slot₀ room count slot =
-    (slot ≤ 11)
+Inv-loop room₀ n question p s issuer list each count₀ slot₀ room count slot =
+    (slot ≤ slotCount)
     × (length room ≡ length room₀)
-    × Rest (fromSlot (slotFindings question p s c starts values) slot (11 - slot)) count room
-    (overSlots (slotFindings question p s c starts values)) n room₀
+    × Rest (findingsOf p (rowsFrom (rowIn question p list each) slot)) count room (findingsOf p (rowsFrom (rowIn question p list each) 1)) n room₀
 
 abbrev μ-loop : tie.MeasureT-loop
-μ-loop room₀ n question p s c starts values count₀ slot₀ room count slot = 11 - slot
+μ-loop room₀ n question p s issuer list each count₀ slot₀ room count slot = slotCount - slot
 
 loop-holds : tie.Need-loop-holds Inv-loop μ-loop
 loop-holds c = (search needs, refl, rest-start _ _ _)
@@ -25,17 +35,22 @@ loop-holds c = (search needs, refl, rest-start _ _ _)
 loop-again : tie.Need-loop-again Inv-loop μ-loop
 loop-again c =
     let turn = c .before .before in
-    let l = turn .before .before .before in (
+    let test = turn .before .before .before in
+    let loop = test .before .loop in (
       search needs,
-      turn .of-slot .kept .0 ∙ l .loop .inv .1,
-      slots-turn _ (l .loop .slot) (search needs) (l .loop .inv .2) (turn .of-slot .ensures),
+      turn .of-slot .kept .0 ∙ loop .inv .1,
+      slots-turn _ (loop .slot) _ (test .loop-test .taken) (loop .inv .2) (turn .of-slot .ensures),
     )
 
 returns : tie.Need-returns Inv-loop μ-loop
-returns c = slots-end _ _ (c .loop-test .left) (c .before .loop .inv .2)
+unfolding rowsOver rowsFrom
+returns c =
+    let loop = c .before .loop in
+    let list = c .before .before .before in
+    rw (← list .list-place .ensures) (slots-end _ (loop .slot) _ (c .loop-test .left) (loop .inv .2))
 
 pub over-slots-spec : {M : Type 1} → statement M
 over-slots-spec =
     tie.close
-    (tie.spec Inv-loop μ-loop loop-holds (λ c κs. search needs) (λ c. search needs) (λ c. search needs) loop-again
-    (λ c. c .before .loop .inv .1) returns)
+    (tie.spec Inv-loop μ-loop (λ c κs. tt) loop-holds (λ c. search needs) (λ c. search needs) (λ c κs. search needs) (λ c. search needs)
+    (λ c. search needs) loop-again (λ c. c .before .loop .inv .1) returns)

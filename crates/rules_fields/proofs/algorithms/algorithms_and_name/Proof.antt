@@ -1,12 +1,12 @@
 -- `rules_fields::algorithms::algorithms_and_name` meets its contract. Assumes nothing.
 use borrow.Author.Needs.{needs}
-use Rattle.report.proofs.Laws.Putting.{_⨾_}
-use Rattle.rules_fields.specs.Algorithms.{algorithmsAndName}
+use Rattle.report.proofs.Laws.Rows.{_⟫_}
+use Rattle.rules_fields.specs.Algorithms.{signatureRows}
 use Rattle.rules_fields.proofs.algorithms.algorithms_and_name.Statement.{statement}
 use Rattle.rules_fields.proofs.algorithms.algorithms_and_name.Tie as tie
 
 returns : tie.Need-returns
-unfolding algorithmsAndName
+unfolding signatureRows
 returns c =
     let fourth = c .before .before in
     let third = fourth .before .before .before .before in
@@ -16,10 +16,10 @@ returns c =
     let differ = stranger .before in
     let outer = differ .before in
     let inner = outer .before in
-    rw (inner .is-sha256-rsa .ensures) at (first .note .ensures)
-    ⨾ rw (outer .is-sha256-rsa2 .ensures) at (second .note2 .ensures)
-    ⨾ rw (differ .same-element .ensures) at (third .note3 .ensures)
-    ⨾ rw (stranger .same-element2 .ensures) at (fourth .note4 .ensures)
+    rw (inner .is-sha256-rsa .ensures) at (first .judge .ensures)
+    ⟫ rw (outer .is-sha256-rsa2 .ensures) at (second .judge2 .ensures)
+    ⟫ rw (differ .same-element .ensures) at (third .judge3 .ensures)
+    ⟫ rw (stranger .same-element2 .ensures) at (fourth .judge4 .ensures)
 
 pub algorithms-and-name-spec : {M : Type 1} → statement M
 algorithms-and-name-spec =

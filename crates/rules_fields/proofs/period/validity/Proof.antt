@@ -1,12 +1,12 @@
 -- `rules_fields::period::validity` meets its contract. Assumes nothing.
 use borrow.Author.Needs.{needs}
-use Rattle.report.proofs.Laws.Putting.{_⨾_}
-use Rattle.rules_fields.specs.Period.{validityFindings}
+use Rattle.report.proofs.Laws.Rows.{_⟫_, same-rule}
+use Rattle.rules_fields.specs.Period.{validityRows}
 use Rattle.rules_fields.proofs.period.validity.Statement.{statement}
 use Rattle.rules_fields.proofs.period.validity.Tie as tie
 
 returns : tie.Need-returns
-unfolding validityFindings
+unfolding validityRows
 returns c =
     let fourth = c .before .before in
     let third = fourth .before .before .before .before in
@@ -18,7 +18,7 @@ returns c =
     let end = order .before in
     rw (← days .max-days .ensures, ← length .within-days .ensures, ← order .reversed .ensures, ← end .early-general2 .ensures)
     (rw (← end .before .early-general .ensures)
-    ((first .note .ensures ⨾ second .note2 .ensures) ⨾ third .note3 .ensures ⨾ fourth .note4 .ensures))
+    (same-rule (first .judge .ensures) (second .judge2 .ensures) ⟫ third .judge3 .ensures ⟫ fourth .judge4 .ensures))
 
 pub validity-spec : {M : Type 1} → statement M
 validity-spec =

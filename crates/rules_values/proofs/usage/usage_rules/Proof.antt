@@ -1,22 +1,21 @@
 -- `rules_values::usage::usage_rules` meets its contract. Assumes nothing.
 use borrow.Author.Needs.{needs}
-use Rattle.rules_values.specs.Usage.{usageFindings}
-use Rattle.report.proofs.Laws.Putting.{_⨾_}
+use Rattle.rules_values.specs.Usage.{usageRows}
+use Rattle.report.proofs.Laws.Rows.{_⟫_}
 use Rattle.rules_values.proofs.usage.usage_rules.Statement.{statement}
 use Rattle.rules_values.proofs.usage.usage_rules.Tie as tie
 
 returns : tie.Need-returns
-unfolding usageFindings
+unfolding usageRows
 returns c =
     let second = c .before .before in
     let first = second .before .before .before .before in
     let other = first .before .before in
     let allowed = other .before in
-    let sign = allowed .before in
-    rw (← sign .before .value-at .ensures, ← sign .unsigned .ensures, ← allowed .allowed-usage .ensures, ← other .other-usage .ensures)
-    (first .note .ensures ⨾ second .note2 .ensures)
+    rw (← allowed .before .signs .ensures, ← allowed .allowed-usage .ensures, ← other .other-usage .ensures)
+    (first .judge-value .ensures ⟫ second .judge-value2 .ensures)
 
 pub usage-rules-spec : {M : Type 1} → statement M
 usage-rules-spec =
     tie.close
-    (tie.spec (λ c κs. tt) (λ c κs. tt) (λ c κs. tt) (λ c κs. tt) (λ c κs. tt) (λ c κs. tt) (λ c. search needs) returns)
+    (tie.spec (λ c. search needs) (λ c κs. tt) (λ c κs. tt) (λ c κs. tt) (λ c κs. tt) (λ c κs. tt) (λ c. search needs) returns)

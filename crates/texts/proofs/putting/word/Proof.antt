@@ -4,13 +4,13 @@ use Prim.Native.Nat.{_-_}
 use native.Mathlib.Omega.{arith}
 use lib.ListN.{length, take}
 use borrow.Author.Needs.{needs}
-use Rattle.texts.specs.Putting.{Put}
+use Rattle.texts.specs.Putting.{Spelled}
 use Rattle.texts.proofs.Laws.Putting.{put-nothing, put-next, put-all}
 use Rattle.texts.proofs.putting.word.Statement.{statement}
 use Rattle.texts.proofs.putting.word.Tie as tie
 
 abbrev Inv-loop : tie.InvT-loop
-Inv-loop out₀ n text m₀ i₀ out m i = (length out ≡ length out₀) × Put (take i text) n out₀ m out
+Inv-loop out₀ n text m₀ i₀ out m i = (length out ≡ length out₀) × Spelled (take i text) n out₀ m out
 
 abbrev μ-loop : tie.MeasureT-loop
 μ-loop out₀ n text m₀ i₀ out m i = length text - i

@@ -6,14 +6,14 @@ use Prim.Native.Nat.{suc, _-_, _*_, _≤_}
 use native.Mathlib.Numerals.{add-one}
 use native.Mathlib.Omega.{arith}
 use lib.ListN.{length, drop, length-take, length-drop}
-use Rattle.writer.specs.Cutting.{blocksFrom, joined}
+use Rattle.writer.specs.Cutting.{blocksFrom, endToEnd}
 use Rattle.writer.proofs.Laws.Rooms.{room-step, room-length}
 use Rattle.writer.proofs.writing.put_blocks.Statement.{statement}
 use Rattle.writer.proofs.writing.put_blocks.Tie as tie
 
 abbrev Inv-loop : tie.InvT-loop
 Inv-loop number n count desk room₀ part₀ room part =
-    (part ≤ count) × (length room ≡ length room₀) × (room ≡ joined (blocksFrom number n 0 part desk) ++ drop (512 * part) room₀)
+    (part ≤ count) × (length room ≡ length room₀) × (room ≡ endToEnd (blocksFrom number n 0 part desk) ++ drop (512 * part) room₀)
 
 abbrev μ-loop : tie.MeasureT-loop
 μ-loop number n count desk room₀ part₀ room part = count - part

@@ -4,7 +4,7 @@ use Prim.Native.Nat.{_≤_}
 use native.Mathlib.Omega.{arith}
 use lib.ListN.{length}
 use borrow.Author.Needs.{needs}
-use Rattle.writer.specs.declared.writing.Answer.the-variants.{Blocks, Refused}
+use Rattle.writer.specs.declared.writing.Placing.the-variants.{Blocks, Refused}
 use Rattle.lint.specs.Judging.{admissionOf}
 use Rattle.lint.specs.declared.refusals.Refusal.the-variants.{NoNumber, NoRoom}
 use Rattle.lint.specs.declared.judging.Judgement.the-variants.{Accepted}

@@ -1,3 +1,0 @@
--- An attribute's type and value, and the rules that judge one attribute by itself.
-pub mod Types
-pub mod Texts

@@ -1,0 +1,62 @@
+-- What a rule may look at.
+use mathlib.Core.Bool.{Bool}
+use mathlib.Core.List.{List}
+use Prim.Native.Nat.{ℕ}
+use lib.ListN.{getD}
+use Rattle.der.specs.Members.{missing}
+use Rattle.certificate.specs.Fields.{certificateOf}
+use Rattle.certificate.specs.Key.{keyOf}
+use Rattle.certificate.specs.Slots.{emptySlot, slotsOf, hasRepeats}
+use Rattle.certificate.specs.Issuer.{Known, known, issuerOf}
+use Rattle.certificate.specs.declared.fields.Certificate.{Certificate}
+use Rattle.certificate.specs.declared.key.Key.{Key}
+use Rattle.certificate.specs.declared.slots.Slot.{Slot}
+use Rattle.facts.specs.declared.Facts.{Facts}
+
+-- A certificate: its octets, its fields and its key; for each slot of the table of extensions the first extension in it, and whether any identifier is
+-- repeated. Of its issuer what counts.
+pub record Case : Type 0 where
+  pub octets : List ℕ
+  pub fields : Certificate
+  pub key : Key
+  pub slots : List Slot
+  pub repeated : Bool
+  pub issuer : Known
+
+-- what the code has read
+unfoldable pub factsOf : List ℕ → List ℕ → Facts
+factsOf s issuer =
+    record {
+      fields = certificateOf s;
+      key = keyOf s (certificateOf s .key);
+      slots = slotsOf s (certificateOf s .extensions);
+      repeated = hasRepeats s (certificateOf s .extensions);
+      issuer = issuerOf issuer;
+    }
+
+abbrev pub caseOf : List ℕ → Facts → List ℕ → Case
+caseOf s f issuer =
+    record {
+      octets = s;
+      fields = f .fields;
+      key = f .key;
+      slots = f .slots;
+      repeated = f .repeated;
+      issuer = known issuer (f .issuer);
+    }
+
+-- the case of a certificate whose issuer is known
+abbrev pub caseIn : List ℕ → Known → Case
+caseIn s k =
+    record {
+      octets = s;
+      fields = certificateOf s;
+      key = keyOf s (certificateOf s .key);
+      slots = slotsOf s (certificateOf s .extensions);
+      repeated = hasRepeats s (certificateOf s .extensions);
+      issuer = k;
+    }
+
+-- what stands in a slot; past the table there is nothing
+abbrev pub slot : Case → ℕ → Slot
+slot f k = getD (f .slots) k (emptySlot (missing 0))

@@ -1,0 +1,58 @@
+// What rules may look at: the fields of a certificate, its key, its extensions by slot, and of its issuer what counts. It is
+// read once. Every group of rules takes the same: the profile, the certificate's octets, these, and the issuer's octets.
+use certificate::Certificate;
+use certificate::Issuer;
+use certificate::Key;
+use certificate::KeyKind;
+use certificate::SLOTS;
+use certificate::Slot;
+ghost use mathlib.Core.Path.{_≡_};
+ghost use Rattle.facts.specs.Kinds.{isRsa, isEllipticCurve};
+ghost use Rattle.facts.specs.Case.{factsOf};
+
+pub struct Facts {
+    pub fields: Certificate,
+    pub key: Key,
+    // the first extension in each slot of the table
+    pub slots: [Slot; SLOTS],
+    // some extension has an identifier seen before
+    pub repeated: bool,
+    pub issuer: Issuer,
+}
+
+pub fn facts_of(s: &[u8], issuer: &[u8]) -> Facts
+    ensures { λ r. ⌜ r ≡ factsOf (now (s .entry)) (now (issuer .entry)) ⌝ }
+{
+    let fields = certificate::read(s);
+    let key = certificate::key_of(s, fields.key);
+    let read = certificate::read_slots(s, fields.extensions);
+    let slots = read.each;
+    let signer = certificate::read_issuer(issuer);
+    Facts {
+        fields: fields,
+        key: key,
+        slots: slots,
+        repeated: read.repeated,
+        issuer: signer,
+    }
+}
+
+pub fn is_rsa(kind: KeyKind) -> bool
+    ensures { λ r. ⌜ r ≡ isRsa kind ⌝ }
+{
+    match kind {
+        KeyKind::Rsa => true,
+        KeyKind::EllipticCurve => false,
+        KeyKind::Other => false,
+    }
+}
+
+pub fn is_elliptic_curve(kind: KeyKind) -> bool
+    ensures { λ r. ⌜ r ≡ isEllipticCurve kind ⌝ }
+{
+    match kind {
+        KeyKind::Rsa => false,
+        KeyKind::EllipticCurve => true,
+        KeyKind::Other => false,
+    }
+}

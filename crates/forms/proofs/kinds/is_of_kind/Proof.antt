@@ -1,0 +1,51 @@
+-- `forms::kinds::is_of_kind` meets its contract: an arm a kind. Assumes nothing.
+use borrow.Author.Needs.{needs}
+use Rattle.forms.proofs.kinds.is_of_kind.Statement.{statement}
+use Rattle.forms.proofs.kinds.is_of_kind.Tie as tie
+
+pub is-of-kind-spec : {M : Type 1} → statement M
+is-of-kind-spec =
+    tie.close
+    (tie.spec
+    (λ c. search needs) (λ c κs. tt)
+    (λ c. search needs) (λ c κs. tt) (λ c κs. tt)
+    (λ c. search needs) (λ c κs. tt)
+    (λ c. search needs) (λ c κs. tt)
+    (λ c. search needs) (λ c κs. tt)
+    (λ c. search needs) (λ c κs. tt)
+    (λ c. search needs) (λ c κs. tt)
+    (λ c. search needs) (λ c κs. tt)
+    (λ c. search needs) (λ c κs. tt)
+    (λ c. search needs) (λ c κs. tt) (λ c κs. tt)
+    (λ c. search needs) (λ c κs. tt) (λ c κs. tt)
+    (λ c. search needs) (λ c κs. tt)
+    (λ c. search needs) (λ c κs. tt) (λ c κs. tt)
+    (λ c. search needs) (λ c κs. tt)
+    (λ c. search needs) (λ c κs. tt)
+    (λ c. search needs) (λ c κs. tt)
+    (λ c. search needs) (λ c κs. tt)
+    (λ c. search needs) (λ c κs. tt)
+    (λ c. search needs) (λ c κs. tt)
+    (λ c. search needs) (λ c κs. tt)
+    (λ c. search needs) (λ c κs. tt)
+    (λ c. rw (c .before .before .kind .given .1, ← c .arc-of .ensures))
+    (λ c. rw (c .before .before .enum-told .given .1, ← c .before .arc-of2 .ensures, ← c .allows-attribute .ensures))
+    (λ c. rw (c .before .enum-told2 .given .1) (c .is-other-country .ensures))
+    (λ c. rw (c .before .enum-told3 .given .1) (c .is-other-organization .ensures))
+    (λ c. rw (c .before .enum-told4 .given .1) (c .is-other-state .ensures))
+    (λ c. rw (c .before .enum-told5 .given .1) (c .is-crowded .ensures))
+    (λ c. rw (c .before .before .kind2 .given .1) (c .is-repeat .ensures))
+    (λ c. rw (c .before .before .kind3 .given .1) (c .is-unwanted-in .ensures))
+    (λ c. rw (c .before .before .kind4 .given .1) (c .is-out-of-place-in .ensures))
+    (λ c. rw (c .before .before .enum-told6 .given .1, ← c .before .purpose-arc .ensures, ← c .wanted-purpose .ensures))
+    (λ c. rw (c .before .before .enum-told7 .given .1, ← c .before .purpose-arc2 .ensures, ← c .allows-purpose .ensures))
+    (λ c. rw (c .before .enum-told8 .given .1) (c .is-federal .ensures))
+    (λ c. rw (c .before .before .enum-told9 .given .1, ← c .before .forum-arc .ensures) (c .wants-forum .ensures))
+    (λ c. rw (c .before .enum-told10 .given .1) (c .other-qualifier .ensures))
+    (λ c. rw (c .before .enum-told11 .given .1, ← c .is-dns-name .ensures))
+    (λ c. rw (c .before .enum-told12 .given .1) (c .has-underscore .ensures))
+    (λ c. rw (c .before .enum-told13 .given .1) (c .no-host .ensures))
+    (λ c. rw (c .before .before .kind5 .given .1) (c .uri-by .ensures))
+    (λ c. rw (c .before .before .kind6 .given .1) (c .not-http-by .ensures))
+    (λ c. rw (c .before .enum-told14 .given .1) (c .is-http .ensures))
+    (λ c. rw (c .before .enum-told15 .given .1) (c .restricted .ensures)))

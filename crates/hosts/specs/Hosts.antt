@@ -1,0 +1,57 @@
+-- Host names: what rules 413 and 414 ask of a dNSName's contents.
+use mathlib.Core.List.{List, [], _∷_, _++_}
+use mathlib.Core.Bool.{Bool, true, false, cond, not, _&&_, _||_}
+use Prim.Native.Nat.{ℕ}
+use lib.ListN.{length}
+use lib.Dec.{leb, eqb}
+use Rattle.hosts.specs.Names.{isDnsName}
+use Rattle.hosts.specs.declared.hosts.Host.{Host}
+use Rattle.hosts.specs.declared.hosts.Host.the-variants.{Plain, Neither}
+use Rattle.der.specs.Contents.{lastOf, contentsOf}
+use Rattle.der.specs.declared.header.Head.{Head}
+
+unfoldable pub hasOctet : ℕ → List ℕ → Bool
+hasOctet x [] = false
+hasOctet x (b ∷ bs) = eqb b x || hasOctet x bs
+
+-- 413 "each dNSName with an underscore", 95 in ASCII
+abbrev pub hasUnderscore : List ℕ → Head → Bool
+hasUnderscore s h = isDnsName h && hasOctet 95 (contentsOf s h)
+
+-- "letters, digits, hyphens (underscore passes here)": A to Z are 65 to 90, a to z 97 to 122, 0 to 9 48 to 57, the hyphen is 45
+abbrev pub labelOctet : ℕ → Bool
+labelOctet b = (leb 65 b && leb b 90 || leb 97 b && leb b 122) || (leb 48 b && leb b 57 || (eqb b 45 || eqb b 95))
+
+unfoldable pub labelOctets : List ℕ → Bool
+labelOctets [] = true
+labelOctets (b ∷ bs) = labelOctet b && labelOctets bs
+
+-- "1 to 63 letters, digits, hyphens (underscore passes here), no hyphen at either end of a label"
+abbrev pub labelOk : List ℕ → Bool
+labelOk [] = false
+labelOk (b ∷ bs) = leb (length (b ∷ bs)) 63 && (labelOctets (b ∷ bs) && (not (eqb b 45) && not (eqb (lastOf b bs) 45)))
+
+-- the labels of octets that stand behind the label so far: a dot, 46 in ASCII, ends it, and so does the end of the name
+unfoldable pub labelsFrom : List ℕ → List ℕ → List (List ℕ)
+labelsFrom label [] = label ∷ []
+labelsFrom label (b ∷ bs) = cond (eqb b 46) (label ∷ labelsFrom [] bs) (labelsFrom (label ++ (b ∷ [])) bs)
+
+-- a name's labels, which dots set apart (a dot at the end leaves an empty label)
+abbrev pub labelsOf : List ℕ → List (List ℕ)
+labelsOf name = labelsFrom [] name
+
+unfoldable pub labelsOk : List (List ℕ) → Bool
+labelsOk [] = true
+labelsOk (label ∷ labels) = labelOk label && labelsOk labels
+
+-- "two or more labels of 1 to 63 letters, digits, hyphens (underscore passes here), no hyphen at either end of a label, at most 253 octets"
+abbrev pub hostOf : List ℕ → Host
+hostOf name = cond (leb (length name) 253 && (leb 2 (length (labelsOf name)) && labelsOk (labelsOf name))) Plain Neither
+
+abbrev pub isPlain : Host → Bool
+isPlain Plain = true
+isPlain Neither = false
+
+-- 414 "each dNSName not of" the above
+abbrev pub noHost : List ℕ → Head → Bool
+noHost s h = isDnsName h && not (isPlain (hostOf (contentsOf s h)))

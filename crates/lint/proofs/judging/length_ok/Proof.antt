@@ -1,7 +1,0 @@
--- `lint::judging::length_ok` meets its contract. Assumes nothing.
-use mathlib.Core.Path.{refl}
-use Rattle.lint.proofs.judging.length_ok.Statement.{statement}
-use Rattle.lint.proofs.judging.length_ok.Tie as tie
-
-pub length-ok-spec : {M : Type 1} → statement M
-length-ok-spec = tie.close (tie.spec (λ c. refl))

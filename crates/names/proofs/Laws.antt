@@ -1,7 +1,0 @@
--- Laws of the definitions, by file.
-pub mod Tests
-pub mod Names
-pub mod Hosts
-pub mod Labels
-pub mod Uris
-pub mod Points

@@ -1,0 +1,72 @@
+-- A report by its rules: for each rule its number, and the elements at which a certificate breaks it. Which rule is judged in which profile is
+-- asked in one place, `entriesOf`.
+use mathlib.Core.List.{List, [], _∷_, _++_, map}
+use mathlib.Core.Bool.{Bool, true, false, cond, _&&_}
+use mathlib.Core.Path.{_≡_}
+use Prim.Native.Nat.{ℕ, _+_, _<_}
+use lib.Dec.{leb}
+use Rattle.report.specs.declared.sink.Entry.{Entry}
+use Rattle.report.specs.Entries.{entryAt}
+use Rattle.report.specs.Order.{In}
+use Rattle.report.specs.Putting.{Put}
+use Rattle.der.specs.declared.header.Head.{Head}
+use Rattle.profiles.specs.Judged.{judges}
+use Rattle.profiles.specs.declared.fields.Profile.{Profile}
+
+-- a rule, and the elements that break it
+pub record Row : Type 0 where
+  pub rule : ℕ
+  pub broken : List Head
+
+infixr 80 _⦂_
+abbrev pub _⦂_ : ℕ → List Head → Row
+rule ⦂ hs = record { rule = rule; broken = hs }
+
+-- a rule on one element: broken at it, or not
+unfoldable pub brokenAt : Bool → Head → List Head
+brokenAt true h = h ∷ []
+brokenAt false h = []
+
+-- a rule that is judged under a condition
+abbrev pub onlyIf : Bool → List Entry → List Entry
+onlyIf judged es = cond judged es []
+
+-- the entries of a rule: none where the profile does not judge it
+unfoldable pub entriesOf : Profile → Row → List Entry
+entriesOf p r = onlyIf (judges p (r .rule)) (map (entryAt (r .rule)) (r .broken))
+
+-- the entries of several, one rule behind the other
+unfoldable pub findingsOf : Profile → List Row → List Entry
+findingsOf p [] = []
+findingsOf p (r ∷ rs) = entriesOf p r ++ findingsOf p rs
+
+-- A function that appends the entries of these rules, in profile p, to room in which n are: its answer r, and the room that it leaves, last.
+pub record Puts (p : Profile) (rs : List Row) (n : ℕ) (room : List ℕ) (r : ℕ) (last : List ℕ) : Type 0 where
+  pub put : Put (findingsOf p rs) n room r last
+
+-- ---- what is asked of a rule, and of the list
+
+-- each element starts before all that are behind it
+pub data Up : List Head → Type 0 where
+  no-heads : Up []
+  more-heads : {h : Head} {hs : List Head} → ((g : Head) → In g hs → h .at < g .at) → Up hs → Up (h ∷ hs)
+
+-- the elements of a rule come in their order, and each of them is one of those that P holds of
+pub record RowOk (P : Head → Type 0) (r : Row) : Type 0 where
+  pub up : Up (r .broken)
+  pub all : (h : Head) → In h (r .broken) → P h
+
+pub data RowsOk (P : Head → Type 0) : List Row → Type 0 where
+  no-rows : RowsOk P []
+  more-rows : {r : Row} {rs : List Row} → RowOk P r → RowsOk P rs → RowsOk P (r ∷ rs)
+
+-- the rules' numbers ascend, from `from` on and below `to`
+unfoldable pub ascend : ℕ → ℕ → List Row → Bool
+ascend from to [] = leb from to
+ascend from to (r ∷ rs) = leb from (r .rule) && ascend (r .rule + 1) to rs
+
+-- the rule of an entry is judged, and is broken at the element where the entry is
+pub record BrokenIn (p : Profile) (e : Entry) (r : Row) (h : Head) : Type 0 where
+  pub judged : judges p (r .rule) ≡ true
+  pub among : In h (r .broken)
+  pub entry : e ≡ entryAt (r .rule) h

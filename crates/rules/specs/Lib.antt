@@ -1,0 +1,2 @@
+-- All rules.
+pub mod Rules

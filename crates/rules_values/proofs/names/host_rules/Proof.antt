@@ -1,0 +1,19 @@
+-- `rules_values::names::host_rules` meets its contract. Assumes nothing.
+use borrow.Author.Needs.{needs}
+use Rattle.rules_values.specs.Hosts.{hostRows}
+use Rattle.report.proofs.Laws.Rows.{_⟫_}
+use Rattle.rules_values.proofs.names.host_rules.Statement.{statement}
+use Rattle.rules_values.proofs.names.host_rules.Tie as tie
+
+returns : tie.Need-returns
+unfolding hostRows
+returns c =
+    let third = c .before .before in
+    let second = third .before .before .before .before in
+    let first = second .before .before .before .before in
+    first .judge-items .ensures ⟫ second .judge-items2 .ensures ⟫ third .judge-items3 .ensures
+
+pub host-rules-spec : {M : Type 1} → statement M
+host-rules-spec =
+    tie.close
+    (tie.spec (λ c. search needs) (λ c κs. tt) (λ c κs. tt) (λ c κs. tt) (λ c. search needs) returns)

@@ -1,0 +1,21 @@
+-- `rules_values::policy::policy_rules` meets its contract. Assumes nothing.
+use borrow.Author.Needs.{needs}
+use Rattle.rules_values.specs.Policies.{policyRows}
+use Rattle.report.proofs.Laws.Rows.{_⟫_}
+use Rattle.rules_values.proofs.policy.policy_rules.Statement.{statement}
+use Rattle.rules_values.proofs.policy.policy_rules.Tie as tie
+
+returns : tie.Need-returns
+unfolding policyRows
+returns c =
+    let third = c .before .before in
+    let second = third .before .before .before .before in
+    let first = second .before .before .before .before in
+    let none = first .before .before in
+    rw (← none .none-of2 .ensures, ← none .before .none-of .ensures)
+    (first .judge-value .ensures ⟫ second .judge-value2 .ensures ⟫ third .judge-inner .ensures)
+
+pub policy-rules-spec : {M : Type 1} → statement M
+policy-rules-spec =
+    tie.close
+    (tie.spec (λ c. search needs) (λ c κs. tt) (λ c κs. tt) (λ c κs. tt) (λ c κs. tt) (λ c κs. tt) (λ c. search needs) returns)
