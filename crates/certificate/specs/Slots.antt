@@ -6,7 +6,7 @@ use lib.Dec.{eqb}
 use Rattle.certificate.specs.Extensions.{extensionOf, slotOf, seenBefore}
 use Rattle.certificate.specs.declared.slots.Firsts.{Firsts}
 use Rattle.certificate.specs.declared.slots.Slot.{Slot}
-use Rattle.certificate.specs.declared.slots.Slots.{Slots}
+use Rattle.certificate.specs.declared.slots.SlotTable.{SlotTable}
 use Rattle.der.specs.Elements.{anyOf, firstOf, isEmpty}
 use Rattle.der.specs.Members.{membersIn, firstIn}
 use Rattle.der.specs.declared.header.Head.{Head}
@@ -51,7 +51,7 @@ slotsOf s list = bySlot (λ slot. slotFrom s slot (firstInSlot s (list .end) (me
 unfoldable pub hasRepeats : List ℕ → Head → Bool
 hasRepeats s list = anyOf (seenBefore s (list .body)) (membersIn s list)
 
-unfoldable pub readSlots : List ℕ → Head → Slots
+unfoldable pub readSlots : List ℕ → Head → SlotTable
 readSlots s list = record { each = slotsOf s list; repeated = hasRepeats s list }
 
 -- ---- as the code finds them: first the extensions, then what is read of each; nothing is read of none

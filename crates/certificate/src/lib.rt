@@ -20,5 +20,5 @@ pub use key::KeyKind;
 pub use key::key_of;
 pub use slots::SLOTS;
 pub use slots::Slot;
-pub use slots::Slots;
+pub use slots::SlotTable;
 pub use slots::read_slots;

@@ -28,7 +28,7 @@ pub struct Slot {
     pub good: bool,
 }
 
-pub struct Slots {
+pub struct SlotTable {
     pub each: [Slot; SLOTS],
     // some Extension has an identifier seen before
     pub repeated: bool,
@@ -153,7 +153,7 @@ fn slot_or(s: &[u8], slot: usize, h: Head, none: Slot) -> Slot
 }
 
 // Of a SEQUENCE OF Extension.
-pub fn read_slots(s: &[u8], list: Head) -> Slots
+pub fn read_slots(s: &[u8], list: Head) -> SlotTable
     ensures { λ r. ⌜ r ≡ readSlots (now (s .entry)) list ⌝ }
 {
     let found = first_extensions(s, list);
@@ -165,7 +165,7 @@ pub fn read_slots(s: &[u8], list: Head) -> Slots
         each[slot] = slot_or(s, slot, firsts[slot], none);
         slot += 1;
     }
-    Slots {
+    SlotTable {
         each: each,
         repeated: found.repeated,
     }

@@ -25,16 +25,16 @@ abbrev pub unordered : List ℕ → Node → Bool
 unordered s n = isSet (n .head) && not (ascending (map (octetsOf s) (heldBy s (n .head))))
 
 -- the start of the first element that a test picks
-pub data Found : Type 0 where
-  nothing : Found
-  found : ℕ → Found
+pub data FirstPlace : Type 0 where
+  nothing : FirstPlace
+  found : ℕ → FirstPlace
 
-unfoldable pub first : (Node → Bool) → List Node → Found
+unfoldable pub first : (Node → Bool) → List Node → FirstPlace
 first p [] = nothing
 first p (n ∷ ns) = cond (p n) (found (n .head .at)) (first p ns)
 
 -- a faulty element counts before a SET out of order, wherever the two stand
-abbrev pub judge : Found → Found → Soundness
+abbrev pub judge : FirstPlace → FirstPlace → Soundness
 judge (found p) set = Unsound p
 judge nothing (found p) = Unordered p
 judge nothing nothing = Sound

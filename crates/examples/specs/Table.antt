@@ -34,54 +34,54 @@ use Rattle.reader.specs.Walking.{Handed, walk}
 use Rattle.reader.specs.declared.finding.Loss.the-variants.{Short, Unsound}
 use Rattle.reader.specs.declared.stepping.Item.the-variants as Items
 
-pub data Question : Type 0 where
+pub data Query : Type 0 where
   -- a side: is it refused by its encoding, and where?
-  encoding : List ℕ → Question
+  encoding : List ℕ → Query
   -- a side that is sound: is it refused by its form, and where?
-  form : List ℕ → Question
+  form : List ℕ → Query
   -- an INTEGER: which number is it?
-  integer : List ℕ → Question
+  integer : List ℕ → Query
   -- a UTCTime: which year is it in?
-  year : String → Question
+  year : String → Query
   -- two UTCTimes: do they keep 111 in this profile?
-  within : Profile → String → String → Question
+  within : Profile → String → String → Query
   -- a slot of the table of extensions and a value: is it of its type?
-  value : ℕ → List ℕ → Question
+  value : ℕ → List ℕ → Query
   -- the contents of a policy's identifier: is it below the arc of rule 409?
-  below : List ℕ → Question
+  below : List ℕ → Query
   -- a key usage: does it break 405 in this profile with this kind of key?
-  usage : Profile → KeyKind → List ℕ → Question
+  usage : Profile → KeyKind → List ℕ → Query
   -- the octets of a record of this number: which check has its first block?
-  check : ℕ → List ℕ → Question
+  check : ℕ → List ℕ → Query
   -- a deck, and a room for the linter: what does stepping through it hand out?
-  reading : List ℕ → List ℕ → Question
+  reading : List ℕ → List ℕ → Query
 
-pub data Answer : Type 0 where
+pub data Reply : Type 0 where
   -- a refusal by number and place; number 0 is none
-  refusal : ℕ → ℕ → Answer
-  number : ℤ → Answer
-  says : Bool → Answer
-  octets : List ℕ → Answer
-  handed : List Handed → Answer
+  refusal : ℕ → ℕ → Reply
+  number : ℤ → Reply
+  says : Bool → Reply
+  octets : List ℕ → Reply
+  handed : List Handed → Reply
   -- the question is about something that is none
-  senseless : Answer
+  senseless : Reply
 
 -- a text in ASCII as octets
 unfoldable pub ascii : String → List ℕ
 ascii end = []
 ascii (c then text) = code c ∷ ascii text
 
-unfoldable pub yearOf : Reading → Answer
+unfoldable pub yearOf : Reading → Reply
 yearOf (Is t) = number (pos (dateOf t .year))
 yearOf Bad = senseless
 
-unfoldable pub isWithin : ℕ → Reading → Reading → Answer
+unfoldable pub isWithin : ℕ → Reading → Reading → Reply
 isWithin days (Is a) (Is b) = says (withinDaysOf (record { «not_before» = a; «not_after» = b }) days)
 isWithin days (Is a) Bad = senseless
 isWithin days Bad b = senseless
 
 -- what the definitions answer
-unfoldable pub answer : Question → Answer
+unfoldable pub answer : Query → Reply
 answer (encoding s) = refusal (soundnessNumber (derSoundness s)) (soundnessPlace (derSoundness s))
 answer (form s) = refusal (verdictNumber (certificateVerdict s)) (verdictPlace (certificateVerdict s))
 answer (integer s) = number (integerOf (contentsOf s (headOf s 0 (length s))))
@@ -95,13 +95,13 @@ answer (reading deck room) = handed (walk (length (blocks deck)) deck 0 room)
 
 pub record Example : Type 0 where
   pub paper : ℕ
-  pub asked : Question
-  pub answered : Answer
+  pub asked : Query
+  pub answered : Reply
 
-abbrev P : ℕ → Question → Answer → Example
+abbrev P : ℕ → Query → Reply → Example
 P n q a = record { paper = n; asked = q; answered = a }
 
-abbrev sound : Answer
+abbrev sound : Reply
 sound = refusal 0 0
 
 -- "P12 record 1, data 01 00 02 30 00 30 00"

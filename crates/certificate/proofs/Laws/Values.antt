@@ -1,7 +1,7 @@
 -- What is read of the extension in a slot.
 --     slot-empty                 of none
 --     slots-law                  of each slot, as the code reads it
---     slots-long, slot-at        a list has an entry for each slot, which is that of the first extension in it
+--     slot-at                    a list has an entry for each slot, which is that of the first extension in it
 --     slot-place, slot-there     where a slot is not empty, its extension is one of the list
 --     slot-good                  a good value
 -- Assumes nothing.
@@ -10,7 +10,7 @@ use mathlib.Core.List.{List, [], _∷_, List·Memᴰ}
 use mathlib.Core.Bool.{Bool, true, false, cond, not, _&&_}
 use Prim.Native.Nat.{ℕ, _<_}
 use native.Mathlib.Omega.{arith}
-use lib.ListN.{length, getD}
+use lib.ListN.{getD}
 use lib.Dec.{ltb, eqb}
 use borrow.Author.Tests.{ltb-true, ltb-false, not-true, eqb-true}
 use Rattle.certificate.specs.Extensions.{slotOf, extensionOf}
@@ -18,7 +18,7 @@ use Rattle.certificate.specs.Slots.{slotCount, bySlot, firstInSlot, isGo
 use Rattle.certificate.specs.Named.{SlotNamed, ValueNamed}
 use Rattle.certificate.specs.declared.slots.Firsts.{Firsts}
 use Rattle.certificate.specs.declared.slots.Slot.{Slot}
-use Rattle.certificate.specs.declared.slots.Slots.{Slots}
+use Rattle.certificate.specs.declared.slots.SlotTable.{SlotTable}
 use Rattle.octets.proofs.Laws.Tests.{and-l, and-r}
 use Rattle.der.specs.Header.{headOf}
 use Rattle.der.specs.Members.{missing, membersIn, firstIn, after, secondIn, past}
@@ -38,7 +38,7 @@ use Rattle.asn.specs.declared.fitting.Verdict.{Verdict}
 use Rattle.asn.specs.declared.fitting.Verdict.the-variants.{Stranger, Fits, Wrong}
 use Rattle.asn.proofs.Laws.Fields.{one-fits, done-fits}
 use Rattle.certificate.proofs.Laws.Named.{stands-here}
-use Rattle.certificate.proofs.Laws.Slots.{unread, by-slot-at, by-slot-long, by-slot-same}
+use Rattle.certificate.proofs.Laws.Slots.{unread, by-slot-at, by-slot-same}
 
 -- ---- of none
 
@@ -99,7 +99,7 @@ module _ (s : List ℕ) (list : Head) where
 
   pub slots-law : (found : Firsts) (none : Slot) (end : Head) (each : List Slot) → found ≡ firstsOf s list → end ≡ missing (list .end)
       → none ≡ emptySlot end → each ≡ bySlot (λ (k : ℕ). slotOr s none k (getD (found .each) k unread))
-      → _≡_ {A = Slots} (record { each = each; repeated = found .repeated }) (readSlots s list)
+      → _≡_ {A = SlotTable} (record { each = each; repeated = found .repeated }) (readSlots s list)
   unfolding readSlots slotsOf firstsOf
   slots-law found none end each f m n e =
       let empty : none ≡ emptySlot (missing (list .end)) = n ∙ ap emptySlot m in
@@ -162,10 +162,6 @@ module _ (s : List ℕ) (slot : ℕ) (h : Head) (e : valueOk s slot (h .body) (h
 -- ---- the slots of a list
 
 module _ (s : List ℕ) (list : Head) where
-  pub slots-long : length (slotsOf s list) ≡ slotCount
-  unfolding slotsOf
-  slots-long = by-slot-long (λ (k : ℕ). slotFrom s k (first s list k))
-
   pub slot-at : (slot : ℕ) (d : Slot) → slot < slotCount → getD (slotsOf s list) slot d ≡ slotFrom s slot (firstInSlot s (list .end) (membersIn s list) slot)
   unfolding slotsOf
   slot-at slot d l = by-slot-at (λ (k : ℕ). slotFrom s k (first s list k)) d slot l

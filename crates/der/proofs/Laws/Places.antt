@@ -9,15 +9,15 @@ use native.Mathlib.Omega.{arith}
 use lib.Dec.{eqb}
 use Rattle.der.specs.Header.{headOf}
 use Rattle.der.specs.Elements.{Node, elementsOf}
-use Rattle.der.specs.Soundness.{faulty, unordered, Found, first, judge, soundness, stretchSoundness, soundnessPlace}
-use Rattle.der.specs.Soundness.Found.{nothing, found}
+use Rattle.der.specs.Soundness.{faulty, unordered, FirstPlace, first, judge, soundness, stretchSoundness, soundnessPlace}
+use Rattle.der.specs.Soundness.FirstPlace.{nothing, found}
 use Rattle.der.specs.Walking.{Rising, startOf}
 use Rattle.der.specs.Walking.Rising.{more}
 use Rattle.der.specs.declared.walk.Soundness.the-variants.{Unsound}
 use Rattle.der.proofs.Laws.Header.{head-forward}
 use Rattle.der.proofs.Laws.Walking.{elements-rise}
 
-abbrev Below : ℕ → Found → Type 0
+abbrev Below : ℕ → FirstPlace → Type 0
 Below to nothing = Unit {0}
 Below to (found p) = p < to
 
@@ -30,7 +30,7 @@ first-below test (n ∷ ns) {to = to} (more l h r) = go (test n) (first-below te
     go true k = h
     go false k = k
 
-judge-below : (to : ℕ) (fault set : Found) → 0 < to → Below to fault → Below to set → soundnessPlace (judge fault set) < to
+judge-below : (to : ℕ) (fault set : FirstPlace) → 0 < to → Below to fault → Below to set → soundnessPlace (judge fault set) < to
 judge-below to (found p) set l f g = f
 judge-below to nothing (found p) l f g = g
 judge-below to nothing nothing l f g = l

@@ -17,8 +17,8 @@ use Rattle.der.specs.Header.{headOf, childrenOf}
 use Rattle.der.specs.Contents.{constructed, elementOk}
 use Rattle.der.specs.Order.{octetsLe, ascendFrom, ascending, octetsOf}
 use Rattle.der.specs.Elements.{Node, heldBy, joined, elementsOf, membersOf}
-use Rattle.der.specs.Soundness.{faulty, isSet, unordered, Found, first, judge, soundness, stretchSoundness, isSound, andThen, inOrder, soundList}
-use Rattle.der.specs.Soundness.Found.{nothing, found}
+use Rattle.der.specs.Soundness.{faulty, isSet, unordered, FirstPlace, first, judge, soundness, stretchSoundness, isSound, andThen, inOrder, soundList}
+use Rattle.der.specs.Soundness.FirstPlace.{nothing, found}
 use Rattle.der.specs.declared.header.Head.{Head}
 use Rattle.der.specs.declared.walk.Soundness.{Soundness}
 use Rattle.der.specs.declared.walk.Soundness.the-variants.{Sound, Unsound, Unordered}
@@ -44,7 +44,7 @@ then-assoc (Unordered p) (Unordered q) (Unordered r) = refl
 
 -- ---- lists of elements
 
-orElse : Found → Found → Found
+orElse : FirstPlace → FirstPlace → FirstPlace
 orElse nothing o = o
 orElse (found p) o = found p
 
@@ -58,7 +58,7 @@ first-join p (x ∷ xs) ys = go (p x) (first-join p xs ys)
     go true e = refl
     go false e = e
 
-judge-join : (a b c d : Found) → judge (orElse a c) (orElse b d) ≡ andThen (judge a b) (judge c d)
+judge-join : (a b c d : FirstPlace) → judge (orElse a c) (orElse b d) ≡ andThen (judge a b) (judge c d)
 unfolding orElse
 judge-join (found p) b c d = refl
 judge-join nothing nothing c d = refl

@@ -142,12 +142,6 @@ module _
   chain-apart (next {at = at} {hs = hs} l r) =
       apart-join (children-apart s (part (headOf s at end) .end) (part (headOf s at end) .body)) (chain-apart r) (held at l) (chain-between r)
 
-  pub parts-between : (at : ℕ) → LieBetween at end (membersOfEach s (map part (childrenOf s at end)))
-  unfolding membersOfEach
-  parts-between at =
-      of-children s at end (λ hs. LieBetween at end (membersOfEach s (map part hs))) (λ hs k. chain-between k)
-      (λ h m. absurd (List·Memᴰ·not-nil m))
-
   pub parts-apart : (at : ℕ) → Apart (membersOfEach s (map part (childrenOf s at end)))
   unfolding membersOfEach
   parts-apart at = of-children s at end (λ hs. Apart (membersOfEach s (map part hs))) (λ hs k. chain-apart k) no-items

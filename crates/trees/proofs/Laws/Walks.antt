@@ -21,8 +21,8 @@ use Rattle.der.specs.Header.{headOf, childrenOf}
 use Rattle.der.specs.Contents.{constructed as isConstructed, contentsOf, elementOk}
 use Rattle.der.specs.Order.{ascendFrom, ascending, octetsOf}
 use Rattle.der.specs.Elements.{Node, elementsOf, membersOf}
-use Rattle.der.specs.Soundness.{faulty, unordered, Found, first, judge, soundness, stretchSoundness, soundnessNumber}
-use Rattle.der.specs.Soundness.Found.{nothing, found}
+use Rattle.der.specs.Soundness.{faulty, unordered, FirstPlace, first, judge, soundness, stretchSoundness, soundnessNumber}
+use Rattle.der.specs.Soundness.FirstPlace.{nothing, found}
 use Rattle.der.specs.declared.header.Head.{Head}
 use Rattle.der.specs.declared.walk.Soundness.{Soundness}
 use Rattle.der.specs.declared.walk.Soundness.the-variants.{Sound, Unsound}
@@ -57,7 +57,7 @@ pub form-none : (s : List ℕ) (ns : List Node) → (soundnessNumber (soundness 
 unfolding soundness
 form-none s ns = go (first (faulty s) ns) (first (unordered s) ns)
   where
-    go : (a b : Found) → (soundnessNumber (judge a b) ≡ 4 → ⊥) ↔ (a ≡ nothing)
+    go : (a b : FirstPlace) → (soundnessNumber (judge a b) ≡ 4 → ⊥) ↔ (a ≡ nothing)
     go nothing nothing = ((λ e. refl), λ e f. omega arith)
     go nothing (found q) = ((λ e. refl), λ e f. omega arith)
     go (found p) b = ((λ e. absurd (e refl)), λ e f. let n : _≡_ {A = ℕ} 0 1 = cc in omega arith)
@@ -66,7 +66,7 @@ pub sound-none : (s : List ℕ) (ns : List Node) → (soundness s ns ≡ Sound) 
 unfolding soundness
 sound-none s ns = go (first (faulty s) ns) (first (unordered s) ns)
   where
-    go : (a b : Found) → (judge a b ≡ Sound) ↔ ((a ≡ nothing) × (b ≡ nothing))
+    go : (a b : FirstPlace) → (judge a b ≡ Sound) ↔ ((a ≡ nothing) × (b ≡ nothing))
     go nothing nothing = ((λ e. (refl, refl)), λ e. refl)
     go nothing (found q) = ((λ e. (refl, cc)), λ e. cc)
     go (found p) b = ((λ e. (cc, cc)), λ e. cc)
