@@ -1,5 +1,6 @@
 //! What the gate asks of the sources of the proved crates beyond their proofs: "No public function lacks a contract
-//! on what it returns", and a public entry point refuses bad input instead of requiring good input.
+//! on what it returns" and on what it does to a buffer that it is lent, and a public entry point refuses bad input
+//! instead of requiring good input.
 
 use std::fs;
 use std::path::{Path, PathBuf};
@@ -18,10 +19,31 @@ impl Function {
         self.head.split(|c: char| !c.is_alphanumeric() && c != '_').any(|word| word == kind)
     }
 
-    /// Whether the function returns something: an arrow stands before the first clause.
-    fn returns(&self) -> bool {
+    /// The head up to its first clause.
+    fn signature(&self) -> &str {
         let signature = self.head.split("requires").next().unwrap_or("");
-        signature.split("ensures").next().unwrap_or("").contains("->")
+        signature.split("ensures").next().unwrap_or("")
+    }
+
+    /// Whether a caller can tell what it did: it returns something, or is lent a buffer that it may change.
+    fn has_effect(&self) -> bool {
+        self.signature().contains("->") || self.signature().contains("&mut")
+    }
+
+    /// Whether every buffer that it may change is named in a clause, as it is right after the body.
+    fn settles_buffers(&self) -> bool {
+        let clauses = &self.head[self.signature().len()..];
+        self.lent().iter().all(|name| clauses.contains(&format!("now ({name} .exit)")))
+    }
+
+    /// The names of the parameters that are lent to be changed.
+    fn lent(&self) -> Vec<&str> {
+        self.signature()
+            .split(|c: char| c == ',' || c == '(')
+            .filter(|parameter| parameter.contains("&mut"))
+            .filter_map(|parameter| parameter.split(':').next())
+            .map(str::trim)
+            .collect()
     }
 
     fn shown(&self) -> String {
@@ -113,13 +135,20 @@ fn all_functions() -> Vec<Function> {
 }
 
 #[test]
-fn no_public_function_lacks_a_contract_on_what_it_returns() {
+fn no_public_function_lacks_a_contract_on_what_it_does() {
     let bare: Vec<String> = all_functions()
         .iter()
-        .filter(|f| f.is_public && f.returns() && !f.has_clause("ensures"))
+        .filter(|f| f.is_public && f.has_effect() && !f.has_clause("ensures"))
         .map(Function::shown)
         .collect();
-    assert!(bare.is_empty(), "public functions that return something and ensure nothing: {bare:#?}");
+    assert!(bare.is_empty(), "public functions that return or change something and ensure nothing: {bare:#?}");
+}
+
+#[test]
+fn every_public_contract_settles_the_buffers_that_are_lent() {
+    let loose: Vec<String> =
+        all_functions().iter().filter(|f| f.is_public && !f.settles_buffers()).map(Function::shown).collect();
+    assert!(loose.is_empty(), "public functions whose contract leaves a lent buffer open: {loose:#?}");
 }
 
 #[test]
@@ -138,6 +167,14 @@ fn a_bare_function_is_told_apart() {
     assert!(head.contains("ensures") && head.ends_with('\n'));
     let bare = head_of("fn f(a: u8) -> u8 { a } pub fn g() -> u8 ensures { x } { 0 }");
     assert_eq!(bare, "fn f(a: u8) -> u8 ");
+    let filling = Function {
+        file: PathBuf::new(),
+        name: "fill".to_string(),
+        is_public: true,
+        head: "fn fill(room: &mut [u8], n: usize) ensures { λ _. ⌜ length (now (room .entry)) ≡ n ⌝ }".to_string(),
+    };
+    assert!(filling.has_effect() && !filling.settles_buffers());
+    assert_eq!(filling.lent(), ["room"]);
     let named = head_of("fn f() -> u8 ensures small { λ r. x } { 1 }");
     assert!(named.ends_with("} "));
 }

@@ -1,6 +1,8 @@
 -- Stepping through a whole deck, the same room lent again at each step.
---     same-handed     in a room as long an event is handed over the same
---     walked          it hands out the events of the deck, each as in the room at the start
+--     same-handed         in a room as long an event is handed over the same
+--     item-is, room-is    what a step hands out before the deck's end, and what it leaves in the room
+--     room-ended          past the end it leaves the room as it was
+--     walked              it hands out the events of the deck, each as in the room at the start
 -- Assumes nothing.
 use mathlib.Core.Path.{_≡_, refl, sym, ap, ap₂, _∙_}
 use mathlib.Core.Bool.{Bool, true, false}
@@ -58,12 +60,16 @@ module _ (d : List ℕ) (i : ℕ) where
   unfolding itemAt
   ended room h = rw (le-ltb _ _ h)
 
+  pub room-ended : (room : List ℕ) → length d ≤ 512 * i → roomAt d i room ≡ room
+  unfolding roomAt
+  room-ended room h = rw (le-ltb _ _ h)
+
   module _ (h : 512 * i < length d) where
-    item-is : (room : List ℕ) → itemAt d i room ≡ itemOf room (eventAt d i)
+    pub item-is : (room : List ℕ) → itemAt d i room ≡ itemOf room (eventAt d i)
     unfolding itemAt
     item-is room = rw (lt-ltb _ _ h)
 
-    room-is : (room : List ℕ) → roomAt d i room ≡ roomAfter room (eventAt d i)
+    pub room-is : (room : List ℕ) → roomAt d i room ≡ roomAfter room (eventAt d i)
     unfolding roomAt
     room-is room = rw (lt-ltb _ _ h)
 
