@@ -1,6 +1,5 @@
 -- `blocks::check::plain_sum` meets its contract: the sum is that of the octets passed. Assumes nothing.
-use mathlib.Core.Path.{_≡_}
-use Prim.Native.Nat.{_*_, _-_, _≤_}
+use Prim.Native.Nat.{_-_, _≤_}
 use native.Mathlib.Omega.{arith}
 use lib.ListN.{length, getD}
 use Rattle.blocks.proofs.Laws.Weigh.{Summed, sum-next, sum-all, plain-apart}
