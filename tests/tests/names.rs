@@ -72,28 +72,22 @@ fn shared(owners: &Owners) -> Vec<String> {
     twice.map(|(name, crates)| format!("{name}: {crates:?}")).collect()
 }
 
+/// Two names that are there say that the files were read at all, and rightly.
+fn check_owners(what: &str, owners: &Owners, there: [&str; 2]) {
+    println!("{} names of public {what}", owners.len());
+    assert!(there.iter().all(|name| owners.contains_key(*name)), "the {what} are not read right");
+    let shared = shared(owners);
+    assert!(shared.is_empty(), "{what} of one name in several crates: {shared:#?}");
+}
+
 #[test]
 fn no_definition_is_named_as_one_of_another_crate() {
-    let owners = owners("specs", "antt", definitions_in);
-    println!("{} names of public definitions", owners.len());
-    assert!(
-        owners.contains_key("derSoundness") && owners.contains_key("Tree"),
-        "the specifications are not read right"
-    );
-    let shared = shared(&owners);
-    assert!(shared.is_empty(), "definitions of one name in several crates: {shared:#?}");
+    check_owners("definitions", &owners("specs", "antt", definitions_in), ["derSoundness", "Tree"]);
 }
 
 #[test]
 fn no_code_is_named_as_that_of_another_crate() {
-    let owners = owners("src", "rt", code_in);
-    println!("{} names of public functions, types and constants", owners.len());
-    assert!(
-        owners.contains_key("check_der") && owners.contains_key("Soundness"),
-        "the sources are not read right"
-    );
-    let shared = shared(&owners);
-    assert!(shared.is_empty(), "code of one name in several crates: {shared:#?}");
+    check_owners("functions, types and constants", &owners("src", "rt", code_in), ["check_der", "Soundness"]);
 }
 
 #[test]

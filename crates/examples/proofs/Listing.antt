@@ -28,5 +28,8 @@ use Rattle.listing.specs.Lines.{refusalText, recordLine, lostLine, totalLine}
 use Rattle.listing.specs.Listing.{findingLines, recordLines, listingOf, printed}
 
 pub p12-printed : printed p12Deck ≡ word "record 1 profile 1 refused 6 side 1 at 0\nlost 1 unsound\nlost 2 short\nrecords 1 blocks 3 lost 2\n"
-unfolding printed listingOf recordLines findingLines recordLine refusalText lostLine totalLine word decimal digitsBy tallyOf events p12Deck zeroFilled blocksOf blockOf checkOf sound _and_ between blocks isPart isWhole run starts recordFrom lossOf certificateOctets issuerOctets lintedRoom answerOf roomOf admissionOf askedOf sideJudgement bothSides judgementOf certificateVerdict fits certificate stretchSoundness soundness first elementsOf elementOk primitiveOk arcsOk ascendFrom octetsLe headOf childrenOf childrenBy octetsFrom numberFrom
+unfolding printed listingOf recordLines findingLines recordLine refusalText lostLine totalLine word decimal digitsBy tallyOf events p12Deck
+    zeroFilled blocksOf blockOf checkOf sound _and_ between blocks isPart isWhole run starts recordFrom lossOf certificateOctets issuerOctets
+    lintedRoom answerOf roomOf admissionOf askedOf sideJudgement bothSides judgementOf certificateVerdict fits certificate stretchSoundness soundness
+    first elementsOf elementOk primitiveOk arcsOk ascendFrom octetsLe headOf childrenOf childrenBy octetsFrom numberFrom
 p12-printed = refl

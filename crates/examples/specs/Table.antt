@@ -115,7 +115,11 @@ p12Deck = endToEnd (blocksOf 1 p12) ++ replicate 612 0
 -- "record 1 profile 1 refused 6 side 1 at 0", "lost 1 unsound", "lost 2 short"
 abbrev p12Handed : List Handed
 p12Handed =
-    record { position = 0; item = Items.Record (record { number = 1; profile = 1; length = 7; answer = Lint.Refused (NotCertificate Certificate 0) }); report = [] }
+    record {
+      position = 0;
+      item = Items.Record (record { number = 1; profile = 1; length = 7; answer = Lint.Refused (NotCertificate Certificate 0) });
+      report = [];
+    }
     ∷ record { position = 1; item = Items.Lost Unsound; report = [] }
     ∷ record { position = 2; item = Items.Lost Short; report = [] }
     ∷ []

@@ -3,7 +3,8 @@ use Prim.Native.Nat.{ℕ}
 use Rattle.lint.specs.declared.refusals.Side.{Side}
 use Rattle.lint.specs.declared.refusals.Side.the-variants.{Certificate, Issuer}
 use Rattle.lint.specs.declared.refusals.Refusal.{Refusal}
-use Rattle.lint.specs.declared.refusals.Refusal.the-variants.{CertificateLength, IssuerLength, UnknownProfile, Unsound, Unordered, NotCertificate, NoRoom, NoNumber}
+use Rattle.lint.specs.declared.refusals.Refusal.the-variants.{CertificateLength, IssuerLength, UnknownProfile, Unsound, Unordered}
+use Rattle.lint.specs.declared.refusals.Refusal.the-variants.{NotCertificate, NoRoom, NoNumber}
 
 -- "No."
 abbrev pub refusalNumber : Refusal → ℕ

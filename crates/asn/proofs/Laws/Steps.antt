@@ -213,7 +213,8 @@ module _ {s : List ℕ} {p : Slots} {at end : ℕ} (o : ℕ) (x : First s p at e
 
   -- v is what the walk of its members says
   module _ (t : not (x .good) ≡ false) (l : testCount ≤ x .found .row % 128) (v : Verdict)
-      (k : v ≡ follows (slotsAt (x .found .row % 128 - testCount)) s (x .h .at) (childrenOf s (x .h .body) (x .h .end))) (well : Bool) (w : well ≡ isFits v) where
+      (k : v ≡ follows (slotsAt (x .found .row % 128 - testCount)) s (x .h .at) (childrenOf s (x .h .body) (x .h .end)))
+      (well : Bool) (w : well ≡ isFits v) where
     by-members : follows p s o (childrenOf s at end) ≡ cond well rest v
     by-members = rw (first-row, not-false (x .good) t, le-ltb (x .found .row % 128) testCount l, w, k) (go (eqb (x .found .row / 128 % 2) 0))
       where

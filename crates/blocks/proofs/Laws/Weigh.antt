@@ -1,5 +1,6 @@
 -- The weighted sum that the check is made of.
---     weighBy, by-take             with any weights; one octet more at the end
+--     weighBy                      with any weights
+--     Summed, sum-next, sum-all    the sum of the first octets, each product at most m: with one octet more, and with all
 --     low, low-parts               with weights modulo 256: 1 to 255, then 0, 1 and on
 --     plain, plain-apart           with the weight 1: how far two sums are apart whose weights differ by 1
 --     weigh-short, weigh-long      the weighted sum from these two
@@ -10,6 +11,7 @@ use mathlib.Core.Logic.{⊎-elim}
 use mathlib.Core.List.{List, [], _∷_, _++_}
 use Prim.Native.Nat.{ℕ, zero, suc, _+_, _*_, _%_, _≤_, _<_}
 use native.Mathlib.Nat.{le-of-suc-le-suc, not-suc-le-zero, add-zero}
+use native.Mathlib.Numerals.{add-one}
 use native.Mathlib.Omega.{arith}
 use lib.ListN.{length, getD, set, take, drop, length-take, length-drop, take-append-drop, drop-of-length-le}
 use lib.Seq.{take-suc, take-all, length-take-le}
@@ -31,10 +33,20 @@ module _ (f : ℕ → ℕ) where
       let e : suc w + length xs ≡ w + suc (length xs) = omega arith in
       omega (arith, by-append (suc w) xs ys, ap (λ (v : ℕ). weighBy f v ys) e)
 
-  pub by-take : (b : List ℕ) (i : ℕ) → i < length b → weighBy f 1 (take (suc i) b) ≡ weighBy f 1 (take i b) + f (1 + i) * getD b i 0
+  by-take : (b : List ℕ) (i : ℕ) → i < length b → weighBy f 1 (take (i + 1) b) ≡ weighBy f 1 (take i b) + f (1 + i) * getD b i 0
   by-take b i h =
-      rw (take-suc b i 0, by-append, length-take-le i b (omega arith))
+      rw (add-one i, take-suc b i 0, by-append, length-take-le i b (omega arith))
       (omega arith)
+
+  abbrev pub Summed : ℕ → List ℕ → ℕ → ℕ → Type 0
+  Summed m b i sum = (i ≤ length b) × (sum ≡ weighBy f 1 (take i b)) × (sum ≤ m * i)
+
+  module _ (m : ℕ) (b : List ℕ) {i sum : ℕ} (so-far : Summed m b i sum) where
+    pub sum-next : (x : ℕ) → i < length b → x ≡ f (1 + i) * getD b i 0 → x ≤ m → Summed m b (i + 1) (sum + x)
+    sum-next x h e l = (omega arith, omega (arith, by-take b i h), omega arith)
+
+    pub sum-all : length b ≤ i → sum ≡ weighBy f 1 b
+    sum-all h = rw (take-all i b h) at (so-far .1)
 
 -- by the weights that are met
 by-same : (f g : ℕ → ℕ) (w v : ℕ) (xs : List ℕ) → ((i : ℕ) → i < length xs → f (w + i) ≡ g (v + i)) → weighBy f w xs ≡ weighBy g v xs

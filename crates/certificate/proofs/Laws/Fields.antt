@@ -5,7 +5,8 @@ use mathlib.Core.Path.{_≡_, _∙_}
 use mathlib.Core.List.{List}
 use Prim.Native.Nat.{ℕ}
 use lib.ListN.{length}
-use Rattle.certificate.specs.Fields.{wholeOf, tbsOf, outerOf, versionIn, serialIn, innerIn, issuerIn, periodIn, subjectIn, keyIn, listAfter, extensionListIn, notBeforeIn, notAfterIn, validityOf, certificateOf}
+use Rattle.certificate.specs.Fields.{wholeOf, tbsOf, outerOf, versionIn, serialIn, innerIn, issuerIn, periodIn, subjectIn, keyIn, listAfter}
+use Rattle.certificate.specs.Fields.{extensionListIn, notBeforeIn, notAfterIn, validityOf, certificateOf}
 use Rattle.certificate.specs.declared.fields.Certificate.{Certificate}
 use Rattle.der.specs.Header.{headOf}
 use Rattle.der.specs.declared.header.Head.{Head}
@@ -14,7 +15,14 @@ use Rattle.der.specs.Members.{firstIn, after, past}
 
 -- ---- head after head
 
-module _ (s : List ℕ) (whole tbs version serial inner issuer period before then subject key list outer : Head) (times : Validity) (whole-read : whole ≡ headOf s 0 (length s)) (tbs-read : tbs ≡ firstIn s whole) (version-read : version ≡ firstIn s tbs) (serial-read : serial ≡ past 0xA0 s version (tbs .end)) (inner-read : inner ≡ after s serial (tbs .end)) (issuer-read : issuer ≡ after s inner (tbs .end)) (period-read : period ≡ after s issuer (tbs .end)) (before-read : before ≡ firstIn s period) (then-read : then ≡ after s before (period .end)) (subject-read : subject ≡ after s period (tbs .end)) (key-read : key ≡ after s subject (tbs .end)) (list-read : list ≡ listAfter s key (tbs .end)) (outer-read : outer ≡ after s tbs (whole .end)) (times-read : times ≡ validityOf s before then) where
+module _ (s : List ℕ) (whole tbs version serial inner issuer period before then subject key list outer : Head) (times : Validity)
+    (whole-read : whole ≡ headOf s 0 (length s)) (tbs-read : tbs ≡ firstIn s whole) (version-read : version ≡ firstIn s tbs)
+    (serial-read : serial ≡ past 0xA0 s version (tbs .end)) (inner-read : inner ≡ after s serial (tbs .end))
+    (issuer-read : issuer ≡ after s inner (tbs .end)) (period-read : period ≡ after s issuer (tbs .end))
+    (before-read : before ≡ firstIn s period) (then-read : then ≡ after s before (period .end))
+    (subject-read : subject ≡ after s period (tbs .end)) (key-read : key ≡ after s subject (tbs .end))
+    (list-read : list ≡ listAfter s key (tbs .end)) (outer-read : outer ≡ after s tbs (whole .end))
+    (times-read : times ≡ validityOf s before then) where
   whole-is : whole ≡ wholeOf s
   unfolding wholeOf
   whole-is = whole-read

@@ -17,7 +17,8 @@ use lib.Dec.{ltb, eqb}
 use borrow.Author.Tests.{ltb-true, ltb-false}
 use Rattle.certificate.specs.Inside.{Between, LiesIn, FieldsInside, KeyInside, AllBetween, AllInside}
 use Rattle.certificate.specs.Inside.AllBetween.{none, more}
-use Rattle.certificate.specs.Fields.{wholeOf, tbsOf, outerOf, versionIn, serialIn, innerIn, issuerIn, periodIn, subjectIn, keyIn, listAfter, extensionListIn, notBeforeIn, notAfterIn, certificateOf}
+use Rattle.certificate.specs.Fields.{wholeOf, tbsOf, outerOf, versionIn, serialIn, innerIn, issuerIn, periodIn, subjectIn, keyIn, listAfter}
+use Rattle.certificate.specs.Fields.{extensionListIn, notBeforeIn, notAfterIn, certificateOf}
 use Rattle.certificate.specs.Key.{keyOf}
 use Rattle.certificate.specs.Extensions.{extensionOf}
 use Rattle.der.specs.Header.{headOf, brokenHead, childrenOf}

@@ -11,7 +11,8 @@ use native.Mathlib.Omega.{arith}
 use lib.ListN.{length}
 use lib.Dec.{ltb, eqb}
 use borrow.Author.Tests.{ltb-true, ltb-false, eq-eqb, ne-eqb, eqb-true}
-use Rattle.certificate.specs.Fields.{wholeOf, tbsOf, outerOf, versionIn, serialIn, innerIn, issuerIn, periodIn, subjectIn, keyIn, extendedAfter, listAfter, extensionListIn, notBeforeIn, notAfterIn, timeIs, timeIn, validityOf, certificateOf}
+use Rattle.certificate.specs.Fields.{wholeOf, tbsOf, outerOf, versionIn, serialIn, innerIn, issuerIn, periodIn, subjectIn, keyIn, extendedAfter}
+use Rattle.certificate.specs.Fields.{listAfter, extensionListIn, notBeforeIn, notAfterIn, timeIs, timeIn, validityOf, certificateOf}
 use Rattle.certificate.specs.Named.{VersionNamed, ExtensionsNamed, Named}
 use Rattle.certificate.specs.Named.VersionNamed.{unwritten, written}
 use Rattle.certificate.specs.Named.ExtensionsNamed.{without, listed}

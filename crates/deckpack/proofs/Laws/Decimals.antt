@@ -53,7 +53,8 @@ module _ (n c : ℕ) where
   unfolding appended
   append-taken m = go (isDecimalDigit c) (leb (10 * n + (c - 48)) largestNumber) refl refl
     where
-      go : (digit small : Bool) → isDecimalDigit c ≡ digit → leb (10 * n + (c - 48)) largestNumber ≡ small → cond (digit && small) (Number (10 * n + (c - 48))) Other ≡ Number m → Taken m
+      go : (digit small : Bool) → isDecimalDigit c ≡ digit → leb (10 * n + (c - 48)) largestNumber ≡ small
+          → cond (digit && small) (Number (10 * n + (c - 48))) Other ≡ Number m → Taken m
       go true true d s e =
           let same : m ≡ 10 * n + (c - 48) = cc e in
           record { digit = d; value = same; small = rw same (leb-true (10 * n + (c - 48)) largestNumber s) }
@@ -82,7 +83,8 @@ from-other n c cs = go (isDecimalDigit c) (leb (10 * n + (c - 48)) largestNumber
     large true m l = rw (lt-leb m largestNumber l)
     large false m l = refl
 
-    go : (digit small : Bool) → leb (10 * n + (c - 48)) largestNumber ≡ small → cond (digit && small) (Number (10 * n + (c - 48))) Other ≡ Other → upTo (digit && areDigits cs) (valueFrom (10 * n + (c - 48)) cs) ≡ Other
+    go : (digit small : Bool) → leb (10 * n + (c - 48)) largestNumber ≡ small
+        → cond (digit && small) (Number (10 * n + (c - 48))) Other ≡ Other → upTo (digit && areDigits cs) (valueFrom (10 * n + (c - 48)) cs) ≡ Other
     go true true s e = absurd (apart (10 * n + (c - 48)) e)
     go true false s e =
         let l = leb-false (10 * n + (c - 48)) largestNumber s in

@@ -54,7 +54,8 @@ unfolding ascendFrom
 ascend-done s x i end h = rw (children-done s i end h)
 
 -- good is whether the next member may follow x
-module _ (s x : List ℕ) (i end : ℕ) (member : Head) (good : Bool) (l : i < end) (e : member ≡ headOf s i end) (g : good ≡ (not true || octetsLe x (octetsFrom s i (member .end - i)))) where
+module _ (s x : List ℕ) (i end : ℕ) (member : Head) (good : Bool) (l : i < end)
+    (e : member ≡ headOf s i end) (g : good ≡ (not true || octetsLe x (octetsFrom s i (member .end - i)))) where
   ascend-split : ascendFrom x (map (octetsOf s) (childrenOf s i end)) ≡
       (good && ascendFrom (octetsFrom s i (member .end - i)) (map (octetsOf s) (childrenOf s (member .end) end)))
   unfolding ascendFrom

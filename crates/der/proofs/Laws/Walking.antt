@@ -58,7 +58,8 @@ rises-join (more l h q) r = let k = rises-le r in more l (lt-of-lt-of-le h k) (r
 
 -- ---- an element and all that it holds
 
-module _ (s : List ℕ) (levels end : ℕ) (each : (at : ℕ) → at < end → Rising at (headOf s at end .end) (map startOf (elementsOf s levels (headOf s at end)))) where
+module _ (s : List ℕ) (levels end : ℕ)
+    (each : (at : ℕ) → at < end → Rising at (headOf s at end .end) (map startOf (elementsOf s levels (headOf s at end)))) where
   joined-rise : {at : ℕ} {hs : List Head} → Chain s end at hs → Rising at end (map startOf (joined (elementsOf s levels) hs))
   joined-rise done = none (le-refl end)
   joined-rise (next {at = at} {hs = hs} l r) =

@@ -9,7 +9,8 @@ use Rattle.lint.specs.Refusals.{refusalNumber, sideNumber, sideOf, placeOf}
 use Rattle.lint.specs.declared.refusals.Side.{Side}
 use Rattle.lint.specs.declared.refusals.Side.the-variants.{Certificate, Issuer}
 use Rattle.lint.specs.declared.refusals.Refusal.{Refusal}
-use Rattle.lint.specs.declared.refusals.Refusal.the-variants.{CertificateLength, IssuerLength, UnknownProfile, Unsound, Unordered, NotCertificate, NoRoom, NoNumber}
+use Rattle.lint.specs.declared.refusals.Refusal.the-variants.{CertificateLength, IssuerLength, UnknownProfile, Unsound, Unordered, NotCertificate}
+use Rattle.lint.specs.declared.refusals.Refusal.the-variants.{NoRoom, NoNumber}
 use Rattle.export.specs.Packing.{packedRefusal}
 
 pub number-small : (r : Refusal) → refusalNumber r ≤ 8

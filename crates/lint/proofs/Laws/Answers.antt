@@ -19,7 +19,8 @@ use Rattle.lint.specs.Answers.{answerTo, Reported}
 use Rattle.lint.specs.declared.refusals.Refusal.the-variants.{NoRoom}
 use Rattle.lint.specs.declared.linting.Answer.the-variants.{Report, Refused}
 
-module _ (es : List Entry) (room : List ℕ) {n : ℕ} {left : List ℕ} {fit : Bool} (p : Put es 0 [] n left) (t : fit ≡ leb (width * n) (length (left ++ room))) where
+module _ (es : List Entry) (room : List ℕ) {n : ℕ} {left : List ℕ} {fit : Bool}
+    (p : Put es 0 [] n left) (t : fit ≡ leb (width * n) (length (left ++ room))) where
   pub reported-short : not fit ≡ true → Reported es room (Refused NoRoom) (left ++ room)
   unfolding answerTo
   reported-short f =

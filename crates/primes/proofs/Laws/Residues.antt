@@ -8,7 +8,8 @@ use mathlib.Core.Path.{_≡_, refl, sym, ap, ap₂, _∙_}
 use mathlib.Core.List.{List, [], _∷_}
 use mathlib.Core.Bool.{true, false, _&&_}
 use Prim.Native.Nat.{ℕ, zero, suc, _+_, _-_, _*_, _/_, _%_, _^_, _≤_, _<_, _∣_, min}
-use native.Mathlib.Nat.{mod-mod, add-mod, mod-add-div, div-add-mod', add-mul-mod-self-left, mod-mod-of-dvd, dvd-of-mod-eq-zero, mul-le-mul, lt-of-lt-of-le, add-zero, mod-lt, le-of-suc-le-suc, not-suc-le-zero}
+use native.Mathlib.Nat.{mod-mod, add-mod, mod-add-div, div-add-mod', add-mul-mod-self-left, mod-mod-of-dvd, dvd-of-mod-eq-zero, mul-le-mul}
+use native.Mathlib.Nat.{lt-of-lt-of-le, add-zero, mod-lt, le-of-suc-le-suc, not-suc-le-zero}
 use native.Mathlib.Numerals.{add-one}
 use native.Mathlib.Omega.{arith}
 use lib.ListN.{length, getD, drop, drop-of-length-le}

@@ -10,7 +10,8 @@ use Prim.Native.Nat.{ℕ, zero, suc, _+_, _-_, _≤_, _<_}
 use native.Mathlib.Omega.{arith}
 use lib.ListN.{length, length-append}
 use lib.Dec.{leb}
-use Rattle.trees.specs.Trees.{Tag, Tree, Trees, primitive, constructed, nothing, _then_, identifierOctet, element, encode, encodeAll, Good, AllGood, height, heightAll, Ascending, encodings, setTag, SetsOrdered, AllSetsOrdered}
+use Rattle.trees.specs.Trees.{Tag, Tree, Trees, primitive, constructed, nothing, _then_, identifierOctet, element, encode, encodeAll, Good}
+use Rattle.trees.specs.Trees.{AllGood, height, heightAll, Ascending, encodings, setTag, SetsOrdered, AllSetsOrdered}
 use Rattle.trees.specs.Reading.{tagOf, treesOf, treeOf}
 use Rattle.trees.specs.Outline.{lineOf, outline, outlineAll}
 use Rattle.der.specs.Header.{wholeHead, headOf, childrenOf}
@@ -25,7 +26,8 @@ use Rattle.octets.proofs.Laws.Octets.{octets-long}
 use Rattle.octets.proofs.Laws.Parts.{part-same, part-cut}
 use Rattle.trees.proofs.Laws.Identifier.{identifier-tag, identifier-form, tag-passes, type-kept}
 use Rattle.trees.proofs.Laws.Element.{Reads, element-reads}
-use Rattle.trees.proofs.Laws.Walks.{None, none-first, none-join, nodeOf, tree-plain, tree-list, elements-plain, elements-list, ok-fault, ordered-plain, ordered-list}
+use Rattle.trees.proofs.Laws.Walks.{None, none-first, none-join, nodeOf, tree-plain, tree-list, elements-plain, elements-list, ok-fault}
+use Rattle.trees.proofs.Laws.Walks.{ordered-plain, ordered-list}
 use Rattle.trees.proofs.Laws.Encoding.{encode-some, ascending-same}
 
 -- what the octets of t say where they are read as the element h at place at

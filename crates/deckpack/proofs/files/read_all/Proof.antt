@@ -50,7 +50,9 @@ returns-2 : tie.Need-returns-2 Inv-loop μ-loop
 returns-2 c = search needs
 
 add-at : tie.Need-add-at Inv-loop μ-loop
-add-at c = let s = c .before .before .before .before .before in omega (arith, octets-within _ _ _ (c .before .before .some .given .1) (s .before .read-some .ensures))
+add-at c =
+    let s = c .before .before .before .before .before in
+    omega (arith, octets-within _ _ _ (c .before .before .some .given .1) (s .before .read-some .ensures))
 
 loop-less : tie.Need-loop-less Inv-loop μ-loop
 loop-less c = search needs

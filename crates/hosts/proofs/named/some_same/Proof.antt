@@ -1,13 +1,14 @@
 -- `hosts::some_same` meets its contract. The invariants: the answer is that of the names from i on; and, within a name, that of the octets from
 -- the kth on, or else of the names after it. Assumes nothing.
 use mathlib.Core.Path.{_≡_, refl, sym, ap, _∙_}
-use mathlib.Core.Bool.{Bool, false, _||_}
-use Prim.Native.Nat.{_+_, _-_, _≤_}
+use mathlib.Core.List.{List}
+use mathlib.Core.Bool.{false, _||_}
+use Prim.Native.Nat.{ℕ, _+_, _-_, _≤_, _<_}
 use native.Mathlib.Nat.{add-zero, sub-zero}
 use native.Mathlib.Omega.{arith}
 use borrow.Author.Tests.{not-true, not-false}
 use Rattle.hosts.specs.Names.{isNamed, someNamed}
-use Rattle.octets.specs.Octets.{octetsFrom}
+use Rattle.octets.specs.Octets.{octetAt, octetsFrom}
 use Rattle.octets.specs.Same.{sameBy, lowerCase}
 use Rattle.octets.proofs.Laws.Same.{same-done, same-next, same-apart}
 use Rattle.der.specs.Header.{childrenOf}
@@ -32,62 +33,63 @@ Inv-names s a n at end found₀ i₀ found i =
 abbrev μ-names : tie.MeasureT-names
 μ-names s a n at end found₀ i₀ found i = end - i
 
+-- the name that is read ends behind its start
+ahead : (c : tie.After-head-at Inv-loop μ-loop Inv-names μ-names)
+    → (c .before .before .names .i < c .head-at .result .end) × (c .head-at .result .end ≤ c .before .before .before .before .args .end)
+ahead c = forward _ _ _ (c .head-at .result) (c .before .names-test .taken) (c .head-at .ensures)
+
+-- the kth octets of the two, as they are compared
+module _ (c : tie.After-lower-case2 Inv-loop μ-loop Inv-names μ-names) where
+  abbrev inner : tie.At-loop Inv-loop μ-loop Inv-names μ-names
+  inner = c .before .before .before .before .before
+
+  abbrev start : tie.Start Inv-loop μ-loop Inv-names μ-names
+  start = inner .before .before .before .before .before .before .before .before
+
+  abbrev s : List ℕ
+  s = start .args .s .now
+
+  left : c .before .before .lower-case .result ≡ lowerCase (octetAt s (start .args .a + inner .loop .k))
+  left = c .before .before .lower-case .ensures ∙ ap lowerCase (c .before .before .before .octet-past .ensures)
+
+  right : c .lower-case2 .result ≡ lowerCase (octetAt s (inner .before .before .before .before .head-at .result .body + inner .loop .k))
+  right = c .lower-case2 .ensures ∙ ap lowerCase (c .before .octet-past2 .ensures)
+
+  inside : inner .loop .k < start .args .n
+  inside = omega arith
+
 names-holds : tie.Need-names-holds Inv-loop μ-loop Inv-names μ-names
 names-holds c = (refl, refl)
 
 names-less : tie.Need-names-less Inv-loop μ-loop Inv-names μ-names
-names-less c =
-    let k = c .before .before .before in
-    let p = k .before .before in
-    let a = p .before .before .args in
-    let f = forward (a .s .now) (p .names .i) (a .end) (k .head-at .result) (k .before .names-test .taken) (k .head-at .ensures) in
-    omega arith
+names-less c = omega (arith, ahead (c .before .before .before))
 
 names-again : tie.Need-names-again Inv-loop μ-loop Inv-names μ-names
 names-again c =
-    let k = c .before .before .before in
-    let p = k .before .before in
-    let a = p .before .before .args in (
-      p .names .inv .0,
-      p .names .inv .1 ∙ named-skip (a .s .now) (a .a) (a .n) (p .names .i) (a .end) (c .before .minus .result)
-          (k .head-at .result) (k .before .names-test .taken) (k .head-at .ensures) (c .before .minus .ensures) (not-true _ (c .if1 .taken)),
+    let h = c .before .before .before in (
+      h .before .before .names .inv .0,
+      h .before .before .names .inv .1 ∙ named-skip _ _ _ _ _ _ _ (h .before .names-test .taken) (h .head-at .ensures)
+          (c .before .minus .ensures) (not-true _ (c .if1 .taken)),
     )
 
 loop-holds : tie.Need-loop-holds Inv-loop μ-loop Inv-names μ-names
 loop-holds c =
-    let k = c .before .before .before in
-    let p = k .before .before in
-    let a = p .before .before .args in (
-      p .names .inv .0,
+    let h = c .before .before .before in (
+      h .before .before .names .inv .0,
       omega arith,
-      simp (add-zero, sub-zero) (p .names .inv .1 ∙ named-enter (a .s .now) (a .a) (a .n) (p .names .i)
-          (a .end) (c .before .minus .result) (k .head-at .result) (k .before .names-test .taken) (k .head-at .ensures)
-          (c .before .minus .ensures) (not-false _ (c .if1 .left))),
+      simp (add-zero, sub-zero) (h .before .before .names .inv .1 ∙ named-enter _ _ _ _ _ _ _ (h .before .names-test .taken)
+          (h .head-at .ensures) (c .before .minus .ensures) (not-false _ (c .if1 .left))),
     )
 
 names-less-2 : tie.Need-names-less-2 Inv-loop μ-loop Inv-names μ-names
-names-less-2 c =
-    let q = c .before .before .before .before .before .before in
-    let k = q .before .before .before .before in
-    let p = k .before .before in
-    let a = p .before .before .args in
-    let f = forward (a .s .now) (p .names .i) (a .end) (k .head-at .result) (k .before .names-test .taken) (k .head-at .ensures) in
-    omega arith
+names-less-2 c = omega (arith, ahead (inner (c .before) .before .before .before .before))
 
 names-again-2 : tie.Need-names-again-2 Inv-loop μ-loop Inv-names μ-names
 names-again-2 c =
-    let q = c .before .before .before .before .before .before in
-    let k = q .before .before .before .before in
-    let p = k .before .before in
-    let a = p .before .before .args in
-    let more : Bool → Bool = λ b. b || someNamed (a .s .now) (octetsFrom (a .s .now) (a .a) (a .n))
-    (childrenOf (a .s .now) (k .head-at .result .end) (a .end)) in (
-      q .loop .inv .0,
-      q .loop .inv .2 ∙ ap more (same-apart lowerCase (a .s .now) (a .s .now) (a .a) (k .head-at .result .body) (a .n)
-          (q .loop .k) (c .before .before .before .lower-case .result) (c .before .lower-case2 .result) (omega arith)
-          (c .before .before .before .lower-case .ensures ∙ ap lowerCase (c .before .before .before .before .octet-past .ensures))
-          (c .before .lower-case2 .ensures ∙ ap lowerCase (c .before .before .octet-past2 .ensures)) (c .if3 .taken)),
-    )
+    let here = c .before in
+    let q = inner here in
+    let apart = same-apart lowerCase (s here) (s here) _ _ _ _ _ _ (inside here) (left here) (right here) (c .if3 .taken) in
+    (q .loop .inv .0, rw apart at (q .loop .inv .2))
 
 add-k : tie.Need-add-k Inv-loop μ-loop Inv-names μ-names
 add-k c = omega arith
@@ -97,19 +99,10 @@ loop-less c = omega arith
 
 loop-again : tie.Need-loop-again Inv-loop μ-loop Inv-names μ-names
 loop-again c =
-    let q = c .before .before .before .before .before .before in
-    let k = q .before .before .before .before in
-    let p = k .before .before in
-    let a = p .before .before .args in
-    let more : Bool → Bool = λ b. b || someNamed (a .s .now) (octetsFrom (a .s .now) (a .a) (a .n))
-    (childrenOf (a .s .now) (k .head-at .result .end) (a .end)) in (
-      q .loop .inv .0,
-      omega arith,
-      q .loop .inv .2 ∙ ap more (same-next lowerCase (a .s .now) (a .s .now) (a .a) (k .head-at .result .body)
-          (a .n) (q .loop .k) (c .before .before .before .lower-case .result) (c .before .lower-case2 .result) (omega arith)
-          (c .before .before .before .lower-case .ensures ∙ ap lowerCase (c .before .before .before .before .octet-past .ensures))
-          (c .before .lower-case2 .ensures ∙ ap lowerCase (c .before .before .octet-past2 .ensures)) (c .if3 .left)),
-    )
+    let here = c .before in
+    let q = inner here in
+    let next = same-next lowerCase (s here) (s here) _ _ _ _ _ _ (inside here) (left here) (right here) (c .if3 .left) in
+    (q .loop .inv .0, omega arith, rw next at (q .loop .inv .2))
 
 returns : tie.Need-returns Inv-loop μ-loop Inv-names μ-names
 returns c =
@@ -121,11 +114,10 @@ returns c =
 returns-2 : tie.Need-returns-2 Inv-loop μ-loop Inv-names μ-names
 returns-2 c =
     let q = c .before in
-    let k = q .before .before .before .before in
-    let a = k .before .before .before .before .args in
-    let more : Bool → Bool = λ b. b || someNamed (a .s .now) (octetsFrom (a .s .now) (a .a) (a .n))
-    (childrenOf (a .s .now) (k .head-at .result .end) (a .end)) in
-    sym (q .loop .inv .2 ∙ ap more (same-done lowerCase (a .s .now) (a .s .now) (a .a) (k .head-at .result .body) (a .n) (q .loop .k) (omega arith)))
+    let h = q .before .before .before .before in
+    let a = h .before .before .before .before .args in
+    let done = same-done lowerCase (a .s .now) (a .s .now) (a .a) (h .head-at .result .body) (a .n) (q .loop .k) (omega arith) in
+    sym (rw done at (q .loop .inv .2))
 
 pub some-same-spec : {M : Type 1} → statement M
 some-same-spec =

@@ -8,7 +8,10 @@ returns : tie.Need-returns
 unfolding answerOf roomOf
 returns c =
     let told = c .before in
-    record { told = rw (← told .before .before .examine .ensures, told .judgement .given .1); bytes = rw (← told .before .before .examine .ensures, told .judgement .given .1) }
+    record {
+      told = rw (← told .before .before .examine .ensures, told .judgement .given .1);
+      bytes = rw (← told .before .before .examine .ensures, told .judgement .given .1);
+    }
 
 returns-2 : tie.Need-returns-2
 unfolding answerOf roomOf
