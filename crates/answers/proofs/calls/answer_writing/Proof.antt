@@ -1,4 +1,4 @@
--- `answers::calls::answer_writing` is safe and ends. Assumes nothing.
+-- `answers::calls::answer_writing` meets its contract. Assumes nothing.
 use mathlib.Core.Path.{_≡_, sym, _∙_}
 use mathlib.Core.List.{List}
 use Prim.Native.Nat.{ℕ, _+_, _*_}
@@ -11,41 +11,11 @@ use Rattle.answers.proofs.Laws.Lending.{too-short, too-wide, lends}
 use Rattle.answers.proofs.calls.answer_writing.Statement.{statement}
 use Rattle.answers.proofs.calls.answer_writing.Tie as tie
 
-pair-requires : tie.Need-pair-requires
-pair-requires c κs = search needs
-
-mul-number : tie.Need-mul-number
-mul-number c = search needs
-
-pair-requires-2 : tie.Need-pair-requires-2
-pair-requires-2 c κs = search needs
-
-add-number : tie.Need-add-number
-add-number c = search needs
-
-octet-requires : tie.Need-octet-requires
-octet-requires c κs = search needs
-
-number-requires : tie.Need-number-requires
-number-requires c κs = search needs
-
-pair-requires-3 : tie.Need-pair-requires-3
-pair-requires-3 c κs = search needs
-
-add-cut : tie.Need-add-cut
-add-cut c = search needs
-
-say-no-call-requires : tie.Need-say-no-call-requires
-say-no-call-requires c κs = search needs
-
 returns : tie.Need-returns
 returns c =
     let x = c .before .before in
     too-short (x .before .before .before .before .before .before .before .args .frame .now) 4 _ _
     (omega (arith, c .before .if1 .taken, x .pair3 .ensures .0))
-
-say-no-call-requires-2 : tie.Need-say-no-call-requires-2
-say-no-call-requires-2 c κs = search needs
 
 returns-2 : tie.Need-returns-2
 returns-2 c =
@@ -53,39 +23,6 @@ returns-2 c =
     let frame : List ℕ = x .before .before .before .before .before .before .before .args .frame .now in
     let asked : x .before .number .result ≡ sizeIn frame 4 = x .before .number .ensures in
     too-wide frame 4 _ _ (omega (arith, c .before .before .if1 .left, x .pair3 .ensures .0)) (omega (arith, c .before .if2 .taken, asked))
-
-cast-call-writer : tie.Need-cast-call-writer
-cast-call-writer c = search needs
-
-sub-call-writer : tie.Need-sub-call-writer
-sub-call-writer c = search needs
-
-part-call-writer-start : tie.Need-part-call-writer-start
-part-call-writer-start c = search needs
-
-part-call-writer-end : tie.Need-part-call-writer-end
-part-call-writer-end c = search needs
-
-sub-call-writer-2 : tie.Need-sub-call-writer-2
-sub-call-writer-2 c = search needs
-
-part-call-writer-start-2 : tie.Need-part-call-writer-start-2
-part-call-writer-start-2 c = search needs
-
-part-call-writer-end-2 : tie.Need-part-call-writer-end-2
-part-call-writer-end-2 c = search needs
-
-slice-relend-prefix-call-writer : tie.Need-slice-relend-prefix-call-writer
-slice-relend-prefix-call-writer c = search needs
-
-slice-aggregate-call-writer : tie.Need-slice-aggregate-call-writer
-slice-aggregate-call-writer c = sym (length-take-le _ _ (c .before .before .before .if2 .left))
-
-call-writer-requires : tie.Need-call-writer-requires
-call-writer-requires c κs = search needs
-
-same-length : tie.Need-same-length
-same-length c = search needs
 
 returns-3 : tie.Need-returns-3
 returns-3 c =
@@ -105,7 +42,7 @@ returns-3 c =
 pub answer-writing-spec : {M : Type 1} → statement M
 answer-writing-spec =
     tie.close
-    (tie.spec pair-requires mul-number pair-requires-2 add-number octet-requires number-requires pair-requires-3
-    add-cut say-no-call-requires returns say-no-call-requires-2 returns-2 cast-call-writer sub-call-writer
-    part-call-writer-start part-call-writer-end sub-call-writer-2 part-call-writer-start-2 part-call-writer-end-2
-    slice-relend-prefix-call-writer slice-aggregate-call-writer call-writer-requires same-length returns-3)
+    (tie.spec (λ c κs. tt) (λ c. search needs) (λ c κs. tt) (λ c. search needs) (λ c κs. tt) (λ c κs. tt) (λ c κs. tt) (λ c. search needs)
+    (λ c κs. tt) returns (λ c κs. tt) returns-2 (λ c. search needs) (λ c. search needs) (λ c. search needs) (λ c. search needs) (λ c. search needs)
+    (λ c. search needs) (λ c. search needs) (λ c. search needs) (λ c. sym (length-take-le _ _ (c .before .before .before .if2 .left))) (λ c κs. tt)
+    (λ c. search needs) returns-3)

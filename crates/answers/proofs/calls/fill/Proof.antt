@@ -1,9 +1,10 @@
 -- `answers::calls::fill` meets its contract. The measure is the number of octets that are left. The invariant: the room keeps its length, and up to
 -- place i it is filled. Assumes nothing.
 use mathlib.Core.Path.{_≡_, refl, ap, _∙_}
-use Prim.Native.Nat.{_-_, _%_, _≤_}
+use mathlib.Core.List.{List}
+use Prim.Native.Nat.{ℕ, _-_, _%_, _≤_}
 use native.Mathlib.Omega.{arith}
-use lib.ListN.{length, take, length-set}
+use lib.ListN.{length, set, take, length-set}
 use borrow.Author.Needs.{needs}
 use Rattle.answers.specs.Rooms.{freshRoom}
 use Rattle.answers.proofs.Laws.Filling.{filled-more, filled}
@@ -33,10 +34,11 @@ loop-less c = omega (arith, c .before .loop .inv .0, c .loop-test .taken)
 
 loop-again : tie.Need-loop-again Inv-loop μ-loop
 loop-again c =
-    let turn = c .before .loop in (
-      length-set (turn .room) (turn .i) _ ∙ turn .inv .0,
-      (omega (arith, length-set (turn .room) (turn .i) (turn .i % 251), c .loop-test .taken), filled-more (turn .room) (turn .i) (turn .inv .1 .1) (c .loop-test .taken)),
-    )
+    let turn = c .before .loop in
+    let room : List ℕ = turn .room in
+    let i : ℕ = turn .i in
+    let long : length (set room i (i % 251)) ≡ length room = length-set room i (i % 251) in
+    (long ∙ turn .inv .0, (omega (arith, long, c .loop-test .taken), filled-more room i (turn .inv .1 .1) (c .loop-test .taken)))
 
 same-length : tie.Need-same-length Inv-loop μ-loop
 same-length c = search needs

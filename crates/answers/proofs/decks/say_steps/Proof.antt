@@ -1,5 +1,5 @@
--- `answers::decks::say_steps` is safe and ends. The measure is the number of octets that are left of the deck. The invariant: the room keeps its
--- length, and no block past the deck's end is passed. Assumes nothing.
+-- `answers::decks::say_steps` meets its contract. The measure is the number of octets that are left of the deck. The invariant: the room keeps its
+-- length, no block past the deck's end is passed, and what is left of the deck leaves the room as all of it does. Assumes nothing.
 use mathlib.Core.Path.{_≡_, refl, ap, ap₂, _∙_}
 use mathlib.Core.List.{List}
 use Prim.Native.Nat.{ℕ, _+_, _*_, _-_, _≤_}
@@ -16,7 +16,9 @@ use Rattle.answers.proofs.decks.say_steps.Statement.{statement}
 use Rattle.answers.proofs.decks.say_steps.Tie as tie
 
 abbrev Inv-loop : tie.InvT-loop
-Inv-loop deck room₀ position₀ room position = (length room ≡ length room₀) × ((512 * position ≤ length deck + 511) × (roomPast room (eventsFrom deck position) ≡ roomPast room₀ (events deck)))
+Inv-loop deck room₀ position₀ room position =
+    (length room ≡ length room₀)
+    × ((512 * position ≤ length deck + 511) × (roomPast room (eventsFrom deck position) ≡ roomPast room₀ (events deck)))
 
 abbrev μ-loop : tie.MeasureT-loop
 μ-loop deck room₀ position₀ room position = length deck + 511 - 512 * position
@@ -75,7 +77,9 @@ loop-less : tie.Need-loop-less Inv-loop μ-loop
 loop-less c = omega (arith, within (c .before .before .before))
 
 loop-again : tie.Need-loop-again Inv-loop μ-loop
-loop-again c = (search needs, (within (c .before .before .before), rest (c .before .before .before) ∙ c .before .before .before .before .before .before .before .before .loop .inv .1 .1))
+loop-again c =
+    let x = c .before .before .before in
+    (search needs, (within x, rest x ∙ x .before .before .before .before .before .loop .inv .1 .1))
 
 pub say-steps-spec : {M : Type 1} → statement M
 say-steps-spec =
