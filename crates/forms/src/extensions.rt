@@ -1,4 +1,4 @@
-// Rules 361 to 363 of one extension. A later one with an identifier seen before ofKind 361 alone: "other rules see the
+// Rules 361 to 363 of one extension. A later one with an identifier seen before breaks 361 alone: "other rules see the
 // first only".
 use der::Head;
 use profiles::Profile;

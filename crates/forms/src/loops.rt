@@ -1,4 +1,4 @@
-// "Each" and "one X" (document 01, "Rules on fields"): an entry for each item that ofKind the rule. One loop for all
+// "Each" and "one X" (document 01, "Rules on fields"): an entry for each item that breaks the rule. One loop for all
 // kinds, and no branch in it that writes.
 use crate::firsts::first_within;
 use crate::kinds::Kind;
