@@ -58,5 +58,8 @@ caseIn s k =
     }
 
 -- what stands in a slot; past the table there is nothing
+abbrev pub slotIn : List Slot → ℕ → Slot
+slotIn slots k = getD slots k (emptySlot (missing 0))
+
 abbrev pub slot : Case → ℕ → Slot
-slot f k = getD (f .slots) k (emptySlot (missing 0))
+slot f k = slotIn (f .slots) k

@@ -37,6 +37,38 @@ pub fn facts_of(s: &[u8], issuer: &[u8]) -> Facts
     }
 }
 
+// The parts of the facts. A function that takes the facts apart has all their fields in each step of its derivation, so the
+// rules take parts, and only these functions take facts apart.
+pub fn fields_of(f: Facts) -> Certificate
+    ensures { λ r. ⌜ r ≡ f .fields ⌝ }
+{
+    f.fields
+}
+
+pub fn key_of(f: Facts) -> Key
+    ensures { λ r. ⌜ r ≡ f .key ⌝ }
+{
+    f.key
+}
+
+pub fn slots_of(f: Facts) -> [Slot; SLOTS]
+    ensures { λ r. ⌜ r ≡ f .slots ⌝ }
+{
+    f.slots
+}
+
+pub fn has_repeats(f: Facts) -> bool
+    ensures { λ r. ⌜ r ≡ f .repeated ⌝ }
+{
+    f.repeated
+}
+
+pub fn issuer_of(f: Facts) -> Issuer
+    ensures { λ r. ⌜ r ≡ f .issuer ⌝ }
+{
+    f.issuer
+}
+
 pub fn is_rsa(kind: KeyKind) -> bool
     ensures { λ r. ⌜ r ≡ isRsa kind ⌝ }
 {

@@ -3,9 +3,12 @@ use mathlib.Core.List.{List, _++_}
 use Rattle.profiles.specs.declared.fields.Profile.{Profile}
 use Rattle.facts.specs.Case.{Case}
 use Rattle.report.specs.Rows.{Row}
-use Rattle.rules_extensions.specs.Slots.{rowsOver}
+use Rattle.rules_extensions.specs.Slots.{listPlace, rowsOver}
 use Rattle.rules_extensions.specs.Identifiers.{identifierRows}
 use Rattle.rules_extensions.specs.declared.slots.Question.the-variants.{Missing, Criticality, Value}
 
 unfoldable pub extensionRows : Profile → Case → List Row
-extensionRows p f = rowsOver Missing p f ++ (rowsOver Criticality p f ++ (rowsOver Value p f ++ identifierRows p f))
+extensionRows p f =
+    rowsOver Missing p (listPlace (f .fields)) (f .slots)
+    ++ (rowsOver Criticality p (listPlace (f .fields)) (f .slots)
+    ++ (rowsOver Value p (listPlace (f .fields)) (f .slots) ++ identifierRows p (f .octets) (f .fields .extensions) (f .repeated)))

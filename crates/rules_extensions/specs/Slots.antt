@@ -9,7 +9,7 @@ use Rattle.profiles.specs.declared.fields.Profile.{Profile}
 use Rattle.certificate.specs.Slots.{numbersFrom, slotCount}
 use Rattle.certificate.specs.declared.fields.Certificate.{Certificate}
 use Rattle.certificate.specs.declared.slots.Slot.{Slot}
-use Rattle.facts.specs.Case.{Case, slot}
+use Rattle.facts.specs.Case.{slotIn}
 use Rattle.report.specs.Rows.{Row, _⦂_, brokenAt}
 use Rattle.rules_extensions.specs.declared.slots.Question.{Question}
 use Rattle.rules_extensions.specs.declared.slots.Question.the-variants.{Missing, Criticality, Value}
@@ -44,5 +44,5 @@ rowAt Criticality p list k v = (320 + k) ⦂ rule320 p k v
 rowAt Value p list k v = (340 + k) ⦂ rule340 v
 
 -- for slots 1, 2 and on to the table's end
-unfoldable pub rowsOver : Question → Profile → Case → List Row
-rowsOver question p f = map (λ k. rowAt question p (listPlace (f .fields)) k (slot f k)) (numbersFrom 1 (slotCount - 1))
+unfoldable pub rowsOver : Question → Profile → Head → List Slot → List Row
+rowsOver question p list slots = map (λ k. rowAt question p list k (slotIn slots k)) (numbersFrom 1 (slotCount - 1))

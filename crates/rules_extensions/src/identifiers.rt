@@ -1,9 +1,8 @@
 // Rules 361 to 363: extensions by their identifiers, whatever their values. They share what was found out about repeats.
-use facts::Facts;
+use der::Head;
 use forms::Kind;
 use forms::Repeats;
 use profiles::Profile;
-ghost use Rattle.facts.specs.Case.{caseOf};
 ghost use Rattle.report.specs.Rows.{Puts};
 ghost use Rattle.rules_extensions.specs.Identifiers.{identifierRows};
 
@@ -12,18 +11,16 @@ pub fn identifiers(
     n: usize,
     p: Profile,
     s: &[u8],
-    f: Facts,
-    issuer: &[u8],
+    list: Head,
+    repeated: bool,
 ) -> usize
-    ensures { λ r. ⌜ Puts p (identifierRows p (caseOf (now (s .entry)) f (now (issuer .entry)))) n (now (room .entry)) r (now (room .exit)) ⌝ }
+    ensures { λ r. ⌜ Puts p (identifierRows p (now (s .entry)) list repeated) n (now (room .entry)) r (now (room .exit)) ⌝ }
 {
-    let fields = f.fields;
-    let list = fields.extensions;
     let from = list.body;
     let to = list.end;
     let repeats = Repeats {
         from: from,
-        some: f.repeated,
+        some: repeated,
     };
     let a = forms::judge_each(room, n, p, 361, Kind::Repeated(repeats), s, from, to);
     let b = forms::judge_each(room, a, p, 362, Kind::Unwanted(repeats), s, from, to);

@@ -21,8 +21,12 @@ pub fn extension_rules(
 ) -> usize
     ensures { λ r. ⌜ Puts p (extensionRows p (caseOf (now (s .entry)) f (now (issuer .entry)))) n (now (room .entry)) r (now (room .exit)) ⌝ }
 {
-    let missing = slots::over_slots(room, n, Question::Missing, p, s, f, issuer);
-    let criticality = slots::over_slots(room, missing, Question::Criticality, p, s, f, issuer);
-    let bad = slots::over_slots(room, criticality, Question::Value, p, s, f, issuer);
-    identifiers::identifiers(room, bad, p, s, f, issuer)
+    let c = facts::fields_of(f);
+    let each = facts::slots_of(f);
+    let repeated = facts::has_repeats(f);
+    let list = slots::list_place(c);
+    let missing = slots::over_slots(room, n, Question::Missing, p, list, each);
+    let criticality = slots::over_slots(room, missing, Question::Criticality, p, list, each);
+    let bad = slots::over_slots(room, criticality, Question::Value, p, list, each);
+    identifiers::identifiers(room, bad, p, s, c.extensions, repeated)
 }

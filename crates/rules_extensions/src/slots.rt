@@ -4,13 +4,11 @@ use certificate::Certificate;
 use certificate::SLOTS;
 use certificate::Slot;
 use der::Head;
-use facts::Facts;
 use profiles::Profile;
 ghost use mathlib.Core.Path.{_≡_};
 ghost use mathlib.Core.List.{[], _∷_};
 ghost use Prim.Native.Nat.{_<_};
 ghost use Rattle.certificate.specs.Slots.{slotCount};
-ghost use Rattle.facts.specs.Case.{caseOf};
 ghost use Rattle.report.specs.Rows.{Puts};
 ghost use Rattle.rules_extensions.specs.Slots.{listPlace, isMiscriticalAt, rowAt, rowsOver};
 
@@ -24,7 +22,7 @@ pub enum Question {
 }
 
 // "At the extension list, or TBS".
-fn list_place(c: Certificate) -> Head
+pub fn list_place(c: Certificate) -> Head
     ensures { λ r. ⌜ r ≡ listPlace c ⌝ }
 {
     let list = c.extensions;
@@ -65,20 +63,17 @@ fn of_slot(
     }
 }
 
-// The entries of all slots from 1 on.
+// The entries of all slots from 1 on; `list` is the place of an extension that is missing.
 pub fn over_slots(
     room: &mut [u8],
     n: usize,
     question: Question,
     p: Profile,
-    s: &[u8],
-    f: Facts,
-    issuer: &[u8],
+    list: Head,
+    each: [Slot; SLOTS],
 ) -> usize
-    ensures { λ r. ⌜ Puts p (rowsOver question p (caseOf (now (s .entry)) f (now (issuer .entry)))) n (now (room .entry)) r (now (room .exit)) ⌝ }
+    ensures { λ r. ⌜ Puts p (rowsOver question p list each) n (now (room .entry)) r (now (room .exit)) ⌝ }
 {
-    let list = list_place(f.fields);
-    let each = f.slots;
     let mut count = n;
     let mut slot = 1;
     while slot < SLOTS {

@@ -4,7 +4,7 @@ use mathlib.Core.List.{List, [], _∷_}
 use Prim.Native.Nat.{ℕ}
 use Rattle.der.specs.Comparing.{contentsAre, octetsAre, sameElement}
 use Rattle.der.specs.declared.header.Head.{Head}
-use Rattle.facts.specs.Case.{Case}
+use Rattle.certificate.specs.declared.fields.Certificate.{Certificate}
 use Rattle.report.specs.Rows.{Row, _⦂_, brokenAt}
 
 -- the OBJECT IDENTIFIER 1.2.840.113549.1.1.11, sha256WithRSAEncryption, and then NULL
@@ -17,19 +17,19 @@ abbrev pub isSha256Rsa : List ℕ → Head → Bool
 isSha256Rsa s algorithm = contentsAre s algorithm sha256Rsa
 
 -- "105 inner, 106 outer algorithm is 1.2.840.113549.1.1.11 with NULL"
-abbrev pub rule105 : Case → List Head
-rule105 f = brokenAt (not (isSha256Rsa (f .octets) (f .fields .inner))) (f .fields .inner)
+abbrev pub rule105 : List ℕ → Certificate → List Head
+rule105 s c = brokenAt (not (isSha256Rsa s (c .inner))) (c .inner)
 
-abbrev pub rule106 : Case → List Head
-rule106 f = brokenAt (not (isSha256Rsa (f .octets) (f .fields .outer))) (f .fields .outer)
+abbrev pub rule106 : List ℕ → Certificate → List Head
+rule106 s c = brokenAt (not (isSha256Rsa s (c .outer))) (c .outer)
 
 -- 107 "the two equal as octets (at outer)"
-abbrev pub rule107 : Case → List Head
-rule107 f = brokenAt (not (sameElement (f .octets) (f .fields .inner) (f .octets) (f .fields .outer))) (f .fields .outer)
+abbrev pub rule107 : List ℕ → Certificate → List Head
+rule107 s c = brokenAt (not (sameElement s (c .inner) s (c .outer))) (c .outer)
 
--- 108 "issuer name equals the issuer's subject, octet by octet"
-abbrev pub rule108 : Case → List Head
-rule108 f = brokenAt (not (octetsAre (f .octets) (f .fields .issuer) (f .issuer .name))) (f .fields .issuer)
+-- 108 "issuer name equals the issuer's subject, octet by octet"; name is that subject's octets
+abbrev pub rule108 : List ℕ → Certificate → List ℕ → List Head
+rule108 s c name = brokenAt (not (octetsAre s (c .issuer) name)) (c .issuer)
 
-unfoldable pub signatureRows : Case → List Row
-signatureRows f = 105 ⦂ rule105 f ∷ 106 ⦂ rule106 f ∷ 107 ⦂ rule107 f ∷ 108 ⦂ rule108 f ∷ []
+unfoldable pub signatureRows : List ℕ → Certificate → List ℕ → List Row
+signatureRows s c name = 105 ⦂ rule105 s c ∷ 106 ⦂ rule106 s c ∷ 107 ⦂ rule107 s c ∷ 108 ⦂ rule108 s c name ∷ []

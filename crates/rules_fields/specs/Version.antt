@@ -8,7 +8,7 @@ use Rattle.der.specs.Comparing.{firstIs}
 use Rattle.der.specs.Integers.{integerOf}
 use Rattle.der.specs.declared.header.Head.{Head}
 use Rattle.numbers.specs.Numbers.{isPositive}
-use Rattle.facts.specs.Case.{Case}
+use Rattle.certificate.specs.declared.fields.Certificate.{Certificate}
 use Rattle.report.specs.Rows.{Row, _⦂_, brokenAt}
 
 -- the version stands in [0], and 2 says v3 (RFC 5280, 4.1.2.1)
@@ -19,26 +19,26 @@ abbrev pub versionPlace : Head → Head → Head
 versionPlace version tbs = cond (eqb (version .tag) 0xA0) version tbs
 
 -- 101 "version v3 (at its [0], or the TBS structure)"
-abbrev pub rule101 : Case → List Head
-rule101 f = brokenAt (not (isV3 (f .octets) (f .fields .version))) (versionPlace (f .fields .version) (f .fields .tbs))
+abbrev pub rule101 : List ℕ → Certificate → List Head
+rule101 s c = brokenAt (not (isV3 s (c .version))) (versionPlace (c .version) (c .tbs))
 
 abbrev pub isAboveZero : List ℕ → Head → Bool
 isAboveZero s serial = isPositive (integerOf (contentsOf s serial))
 
 -- 102 "serial above zero"
-abbrev pub rule102 : Case → List Head
-rule102 f = brokenAt (not (isAboveZero (f .octets) (f .fields .serial))) (f .fields .serial)
+abbrev pub rule102 : List ℕ → Certificate → List Head
+rule102 s c = brokenAt (not (isAboveZero s (c .serial))) (c .serial)
 
 abbrev pub serialLength : Head → ℕ
 serialLength serial = serial .end - serial .body
 
 -- 103 "serial at most 20 content octets"
-abbrev pub rule103 : Case → List Head
-rule103 f = brokenAt (ltb 20 (serialLength (f .fields .serial))) (f .fields .serial)
+abbrev pub rule103 : Certificate → List Head
+rule103 c = brokenAt (ltb 20 (serialLength (c .serial))) (c .serial)
 
 -- 104 "at least 8"
-abbrev pub rule104 : Case → List Head
-rule104 f = brokenAt (ltb (serialLength (f .fields .serial)) 8) (f .fields .serial)
+abbrev pub rule104 : Certificate → List Head
+rule104 c = brokenAt (ltb (serialLength (c .serial)) 8) (c .serial)
 
-unfoldable pub versionRows : Case → List Row
-versionRows f = 101 ⦂ rule101 f ∷ 102 ⦂ rule102 f ∷ 103 ⦂ rule103 f ∷ 104 ⦂ rule104 f ∷ []
+unfoldable pub versionRows : List ℕ → Certificate → List Row
+versionRows s c = 101 ⦂ rule101 s c ∷ 102 ⦂ rule102 s c ∷ 103 ⦂ rule103 c ∷ 104 ⦂ rule104 c ∷ []

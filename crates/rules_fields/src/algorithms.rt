@@ -1,9 +1,9 @@
 // Rules 105 to 108: the two signature algorithms and the issuer's name.
+use certificate::Certificate;
 use der::Head;
-use facts::Facts;
 use profiles::Profile;
 ghost use mathlib.Core.Path.{_≡_};
-ghost use Rattle.facts.specs.Case.{caseOf};
+ghost use Rattle.der.specs.Order.{octetsOf};
 ghost use Rattle.report.specs.Rows.{Puts};
 ghost use Rattle.rules_fields.specs.Algorithms.{isSha256Rsa, signatureRows};
 
@@ -17,22 +17,22 @@ fn is_sha256_rsa(s: &[u8], algorithm: Head) -> bool
     )
 }
 
+// `name` is the issuer's subject, in its octets.
 pub fn algorithms_and_name(
     room: &mut [u8],
     n: usize,
     p: Profile,
     s: &[u8],
-    f: Facts,
+    c: Certificate,
     issuer: &[u8],
+    name: Head,
 ) -> usize
-    ensures { λ r. ⌜ Puts p (signatureRows (caseOf (now (s .entry)) f (now (issuer .entry)))) n (now (room .entry)) r (now (room .exit)) ⌝ }
+    ensures { λ r. ⌜ Puts p (signatureRows (now (s .entry)) c (octetsOf (now (issuer .entry)) name)) n (now (room .entry)) r (now (room .exit)) ⌝ }
 {
-    let c = f.fields;
-    let i = f.issuer;
     let inner = !is_sha256_rsa(s, c.inner);
     let outer = !is_sha256_rsa(s, c.outer);
     let differ = !der::same_element(s, c.inner, s, c.outer);
-    let stranger = !der::same_element(s, c.issuer, issuer, i.name);
+    let stranger = !der::same_element(s, c.issuer, issuer, name);
     let a = report::judge(room, n, p, 105, inner, c.inner);
     let b = report::judge(room, a, p, 106, outer, c.outer);
     let d = report::judge(room, b, p, 107, differ, c.outer);

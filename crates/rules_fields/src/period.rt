@@ -1,14 +1,12 @@
 // Rules 109 to 111: the validity.
-use facts::Facts;
+use certificate::Certificate;
 use profiles::Profile;
-ghost use Rattle.facts.specs.Case.{caseOf};
 ghost use Rattle.report.specs.Rows.{Puts};
 ghost use Rattle.rules_fields.specs.Period.{validityRows};
 
-pub fn validity(room: &mut [u8], n: usize, p: Profile, s: &[u8], f: Facts, issuer: &[u8]) -> usize
-    ensures { λ r. ⌜ Puts p (validityRows p (caseOf (now (s .entry)) f (now (issuer .entry)))) n (now (room .entry)) r (now (room .exit)) ⌝ }
+pub fn validity(room: &mut [u8], n: usize, p: Profile, c: Certificate) -> usize
+    ensures { λ r. ⌜ Puts p (validityRows p c) n (now (room .entry)) r (now (room .exit)) ⌝ }
 {
-    let c = f.fields;
     let times = c.validity;
     let start = times.not_before;
     let end = times.not_after;

@@ -1,9 +1,8 @@
 // Rules 101 to 104: the version and the serial number.
+use certificate::Certificate;
 use der::Head;
-use facts::Facts;
 use profiles::Profile;
 ghost use mathlib.Core.Path.{_≡_};
-ghost use Rattle.facts.specs.Case.{caseOf};
 ghost use Rattle.report.specs.Rows.{Puts};
 ghost use Rattle.rules_fields.specs.Version.{isV3, versionPlace, serialLength, isAboveZero, versionRows};
 
@@ -39,17 +38,9 @@ fn is_above_zero(s: &[u8], serial: Head) -> bool
     numbers::positive(s, serial.body, serial.end)
 }
 
-pub fn version_and_serial(
-    room: &mut [u8],
-    n: usize,
-    p: Profile,
-    s: &[u8],
-    f: Facts,
-    issuer: &[u8],
-) -> usize
-    ensures { λ r. ⌜ Puts p (versionRows (caseOf (now (s .entry)) f (now (issuer .entry)))) n (now (room .entry)) r (now (room .exit)) ⌝ }
+pub fn version_and_serial(room: &mut [u8], n: usize, p: Profile, s: &[u8], c: Certificate) -> usize
+    ensures { λ r. ⌜ Puts p (versionRows (now (s .entry)) c) n (now (room .entry)) r (now (room .exit)) ⌝ }
 {
-    let c = f.fields;
     let serial = c.serial;
     let length = serial_length(serial);
     let place = version_place(c.version, c.tbs);

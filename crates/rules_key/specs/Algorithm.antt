@@ -8,7 +8,6 @@ use Rattle.profiles.specs.Fields.{takesCurves}
 use Rattle.profiles.specs.declared.fields.Profile.{Profile}
 use Rattle.certificate.specs.declared.key.KeyKind.{KeyKind}
 use Rattle.certificate.specs.declared.key.Key.{Key}
-use Rattle.facts.specs.Case.{Case}
 use Rattle.facts.specs.Kinds.{isRsa, isEllipticCurve}
 use Rattle.report.specs.Rows.{Row, _⦂_, brokenAt}
 
@@ -16,22 +15,22 @@ use Rattle.report.specs.Rows.{Row, _⦂_, brokenAt}
 abbrev pub allowsKind : Profile → KeyKind → Bool
 allowsKind p kind = isRsa kind || takesCurves p && isEllipticCurve kind
 
-abbrev pub rule201 : Profile → Case → List Head
-rule201 p f = brokenAt (not (allowsKind p (f .key .kind))) (f .key .algorithm)
+abbrev pub rule201 : Profile → Key → List Head
+rule201 p k = brokenAt (not (allowsKind p (k .kind))) (k .algorithm)
 
 -- 202 "RSA key: parameters NULL"
 abbrev pub lacksNull : List ℕ → Key → Bool
 lacksNull s k = isRsa (k .kind) && not (isNull s (k .parameters))
 
-abbrev pub rule202 : Case → List Head
-rule202 f = brokenAt (lacksNull (f .octets) (f .key)) (f .key .algorithm)
+abbrev pub rule202 : List ℕ → Key → List Head
+rule202 s k = brokenAt (lacksNull s k) (k .algorithm)
 
 -- 203 "EC key: parameters one of the curves in 000"
 abbrev pub lacksCurve : List ℕ → Key → Bool
 lacksCurve s k = isEllipticCurve (k .kind) && not (isCurve s (k .parameters))
 
-abbrev pub rule203 : Case → List Head
-rule203 f = brokenAt (lacksCurve (f .octets) (f .key)) (f .key .algorithm)
+abbrev pub rule203 : List ℕ → Key → List Head
+rule203 s k = brokenAt (lacksCurve s k) (k .algorithm)
 
-unfoldable pub algorithmRows : Profile → Case → List Row
-algorithmRows p f = 201 ⦂ rule201 p f ∷ 202 ⦂ rule202 f ∷ 203 ⦂ rule203 f ∷ []
+unfoldable pub algorithmRows : Profile → List ℕ → Key → List Row
+algorithmRows p s k = 201 ⦂ rule201 p k ∷ 202 ⦂ rule202 s k ∷ 203 ⦂ rule203 s k ∷ []

@@ -7,4 +7,4 @@ use Rattle.facts.specs.Case.{Case}
 use Rattle.report.specs.Rows.{Row}
 
 unfoldable pub keyRows : Profile → Case → List Row
-keyRows p f = algorithmRows p f ++ rsaRows f
+keyRows p f = algorithmRows p (f .octets) (f .key) ++ rsaRows (f .octets) (f .key)

@@ -3,12 +3,10 @@ use crate::parameters::is_curve;
 use crate::parameters::is_null;
 use certificate::Key;
 use certificate::KeyKind;
-use facts::Facts;
 use facts::is_elliptic_curve;
 use facts::is_rsa;
 use profiles::Profile;
 ghost use mathlib.Core.Path.{_≡_};
-ghost use Rattle.facts.specs.Case.{caseOf};
 ghost use Rattle.report.specs.Rows.{Puts};
 ghost use Rattle.rules_key.specs.Algorithm.{allowsKind, lacksNull, lacksCurve, algorithmRows};
 
@@ -34,17 +32,9 @@ fn lacks_curve(s: &[u8], k: Key) -> bool
     is_elliptic_curve(kind) & !is_curve(s, k.parameters)
 }
 
-pub fn algorithm_rules(
-    room: &mut [u8],
-    n: usize,
-    p: Profile,
-    s: &[u8],
-    f: Facts,
-    issuer: &[u8],
-) -> usize
-    ensures { λ r. ⌜ Puts p (algorithmRows p (caseOf (now (s .entry)) f (now (issuer .entry)))) n (now (room .entry)) r (now (room .exit)) ⌝ }
+pub fn algorithm_rules(room: &mut [u8], n: usize, p: Profile, s: &[u8], k: Key) -> usize
+    ensures { λ r. ⌜ Puts p (algorithmRows p (now (s .entry)) k) n (now (room .entry)) r (now (room .exit)) ⌝ }
 {
-    let k = f.key;
     let kind = k.kind;
     let other = !allows_kind(p, kind);
     let null = lacks_null(s, k);

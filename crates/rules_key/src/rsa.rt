@@ -1,7 +1,7 @@
 // Rules 204 to 207: the key in an RSA key's bits.
 use crate::bits::rsa_key;
+use certificate::Key;
 use der::Head;
-use facts::Facts;
 use facts::is_rsa;
 use profiles::Profile;
 ghost use mathlib.Core.Path.{_≡_};
@@ -10,7 +10,6 @@ ghost use Rattle.der.specs.Contents.{contentsOf};
 ghost use Rattle.octets.specs.Numbers.{numberOf};
 ghost use Rattle.numbers.specs.Numbers.{modulusOk, exponentOk};
 ghost use Rattle.primes.specs.Primes.{freeOf, primesBelow};
-ghost use Rattle.facts.specs.Case.{caseOf};
 ghost use Rattle.report.specs.Rows.{Puts};
 ghost use Rattle.rules_key.specs.Rsa.{rsaRows};
 
@@ -36,10 +35,9 @@ fn is_divided(judged: bool, s: &[u8], h: Head) -> bool
     false
 }
 
-pub fn rsa_rules(room: &mut [u8], n: usize, p: Profile, s: &[u8], f: Facts, issuer: &[u8]) -> usize
-    ensures { λ r. ⌜ Puts p (rsaRows (caseOf (now (s .entry)) f (now (issuer .entry)))) n (now (room .entry)) r (now (room .exit)) ⌝ }
+pub fn rsa_rules(room: &mut [u8], n: usize, p: Profile, s: &[u8], k: Key) -> usize
+    ensures { λ r. ⌜ Puts p (rsaRows (now (s .entry)) k) n (now (room .entry)) r (now (room .exit)) ⌝ }
 {
-    let k = f.key;
     let key = rsa_key(s, k.bits);
     let kind = k.kind;
     let rsa = is_rsa(kind);

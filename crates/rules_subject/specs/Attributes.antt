@@ -5,53 +5,49 @@ use Rattle.der.specs.declared.header.Head.{Head}
 use Rattle.profiles.specs.Fields.{commonName, country, organization, stateOrProvince}
 use Rattle.profiles.specs.declared.fields.Profile.{Profile}
 use Rattle.subjects.specs.Texts.{isOtherCountry, isOtherOrganization, isOtherState}
-use Rattle.facts.specs.Case.{Case}
 use Rattle.forms.specs.Kinds.{hasArc, isForeign}
 use Rattle.forms.specs.Lists.{attributesIn}
 use Rattle.report.specs.Forms.{filter, onesOf}
 use Rattle.report.specs.Rows.{Row, _⦂_}
 
-abbrev pub attributesOf : Case → List Head
-attributesOf f = attributesIn (f .octets) (f .fields .subject)
-
 -- "one X", X by its arc below 2.5.4: "an entry at the subject name if none, and at each further X"
-abbrev pub oneOf : ℕ → Case → List Head
-oneOf arc f = onesOf (f .fields .subject) (filter (hasArc (f .octets) arc) (attributesOf f))
+abbrev pub oneOf : ℕ → List ℕ → Head → List Head
+oneOf arc s name = onesOf name (filter (hasArc s arc) (attributesIn s name))
 
 -- 112 "each subject attribute besides CN, C (1); CN, C, O, ST (2); CN, C, O, OU (O)"
-abbrev pub rule112 : Profile → Case → List Head
-rule112 p f = filter (isForeign p (f .octets)) (attributesOf f)
+abbrev pub rule112 : Profile → List ℕ → Head → List Head
+rule112 p s name = filter (isForeign p s) (attributesIn s name)
 
 -- 113 "one CN"
-abbrev pub rule113 : Case → List Head
-rule113 f = oneOf commonName f
+abbrev pub rule113 : List ℕ → Head → List Head
+rule113 s name = oneOf commonName s name
 
 -- 114 "one C"
-abbrev pub rule114 : Case → List Head
-rule114 f = oneOf country f
+abbrev pub rule114 : List ℕ → Head → List Head
+rule114 s name = oneOf country s name
 
 -- 115 "each C is PrintableString "US""
-abbrev pub rule115 : Case → List Head
-rule115 f = filter (isOtherCountry (f .octets)) (attributesOf f)
+abbrev pub rule115 : List ℕ → Head → List Head
+rule115 s name = filter (isOtherCountry s) (attributesIn s name)
 
 -- 116 "one O"
-abbrev pub rule116 : Case → List Head
-rule116 f = oneOf organization f
+abbrev pub rule116 : List ℕ → Head → List Head
+rule116 s name = oneOf organization s name
 
 -- 117 "each O is "U.S. Government""
-abbrev pub rule117 : Case → List Head
-rule117 f = filter (isOtherOrganization (f .octets)) (attributesOf f)
+abbrev pub rule117 : List ℕ → Head → List Head
+rule117 s name = filter (isOtherOrganization s) (attributesIn s name)
 
 -- 118 "one ST"
-abbrev pub rule118 : Case → List Head
-rule118 f = oneOf stateOrProvince f
+abbrev pub rule118 : List ℕ → Head → List Head
+rule118 s name = oneOf stateOrProvince s name
 
 -- 119 "each ST is "District of Columbia""
-abbrev pub rule119 : Case → List Head
-rule119 f = filter (isOtherState (f .octets)) (attributesOf f)
+abbrev pub rule119 : List ℕ → Head → List Head
+rule119 s name = filter (isOtherState s) (attributesIn s name)
 
-unfoldable pub countryRows : Profile → Case → List Row
-countryRows p f = 112 ⦂ rule112 p f ∷ 113 ⦂ rule113 f ∷ 114 ⦂ rule114 f ∷ 115 ⦂ rule115 f ∷ []
+unfoldable pub countryRows : Profile → List ℕ → Head → List Row
+countryRows p s name = 112 ⦂ rule112 p s name ∷ 113 ⦂ rule113 s name ∷ 114 ⦂ rule114 s name ∷ 115 ⦂ rule115 s name ∷ []
 
-unfoldable pub organizationRows : Case → List Row
-organizationRows f = 116 ⦂ rule116 f ∷ 117 ⦂ rule117 f ∷ 118 ⦂ rule118 f ∷ 119 ⦂ rule119 f ∷ []
+unfoldable pub organizationRows : List ℕ → Head → List Row
+organizationRows s name = 116 ⦂ rule116 s name ∷ 117 ⦂ rule117 s name ∷ 118 ⦂ rule118 s name ∷ 119 ⦂ rule119 s name ∷ []

@@ -10,29 +10,29 @@ use Rattle.profiles.specs.Fields.{commonName}
 use Rattle.subjects.specs.Sets.{isCrowded}
 use Rattle.subjects.specs.Types.{attributeValue}
 use Rattle.hosts.specs.Names.{someNamed}
-use Rattle.facts.specs.Case.{Case, slot}
+use Rattle.certificate.specs.declared.slots.Slot.{Slot}
 use Rattle.forms.specs.Kinds.{hasArc}
+use Rattle.forms.specs.Lists.{attributesIn}
 use Rattle.forms.specs.Values.{whereGood}
 use Rattle.report.specs.Forms.{filter}
 use Rattle.report.specs.Rows.{Row, _⦂_, brokenAt}
-use Rattle.rules_subject.specs.Attributes.{attributesOf}
 
 -- the first CN of a subject, or an empty element
-abbrev pub firstCommonName : Case → Head
-firstCommonName f = firstOf (hasArc (f .octets) commonName) (f .fields .subject .end) (attributesOf f)
+abbrev pub firstCommonName : List ℕ → Head → Head
+firstCommonName s name = firstOf (hasArc s commonName) (name .end) (attributesIn s name)
 
 -- "the first CN equals at least one dNSName of the subject alternative name, ASCII case ignored. Content octets are compared; without a CN it is not
 -- judged"
 unfoldable pub isUnnamed : List ℕ → Head → Head → Bool
 isUnnamed s cn alternative = not (isEmpty cn) && not (someNamed s (contentsOf s (attributeValue s cn)) (membersIn s alternative))
 
--- 120, at the first CN; slot 7 is the subject alternative name
-abbrev pub rule120 : Case → List Head
-rule120 f = whereGood (slot f 7) (brokenAt (isUnnamed (f .octets) (firstCommonName f) (slot f 7 .element)) (firstCommonName f))
+-- 120, at the first CN; the slot is the subject alternative name's
+abbrev pub rule120 : List ℕ → Head → Slot → List Head
+rule120 s name v = whereGood v (brokenAt (isUnnamed s (firstCommonName s name) (v .element)) (firstCommonName s name))
 
 -- 121 "each SET of a subject name with over one member"
-abbrev pub rule121 : Case → List Head
-rule121 f = filter (isCrowded (f .octets)) (membersIn (f .octets) (f .fields .subject))
+abbrev pub rule121 : List ℕ → Head → List Head
+rule121 s name = filter (isCrowded s) (membersIn s name)
 
-unfoldable pub nameRows : Case → List Row
-nameRows f = 120 ⦂ rule120 f ∷ 121 ⦂ rule121 f ∷ []
+unfoldable pub nameRows : List ℕ → Head → Slot → List Row
+nameRows s name v = 120 ⦂ rule120 s name v ∷ 121 ⦂ rule121 s name ∷ []

@@ -1,25 +1,15 @@
 // Rules 112 to 119: which attributes there are, and what they say.
-use facts::Facts;
+use der::Head;
 use forms::Kind;
 use forms::Nest;
 use profiles::Profile;
-ghost use Rattle.facts.specs.Case.{caseOf};
 ghost use Rattle.report.specs.Rows.{Puts};
 ghost use Rattle.rules_subject.specs.Attributes.{countryRows, organizationRows};
 
 // Rules 112 to 115. CN is 3 below 2.5.4, C is 6.
-pub fn name_and_country(
-    room: &mut [u8],
-    n: usize,
-    p: Profile,
-    s: &[u8],
-    f: Facts,
-    issuer: &[u8],
-) -> usize
-    ensures { λ r. ⌜ Puts p (countryRows p (caseOf (now (s .entry)) f (now (issuer .entry)))) n (now (room .entry)) r (now (room .exit)) ⌝ }
+pub fn name_and_country(room: &mut [u8], n: usize, p: Profile, s: &[u8], name: Head) -> usize
+    ensures { λ r. ⌜ Puts p (countryRows p (now (s .entry)) name) n (now (room .entry)) r (now (room .exit)) ⌝ }
 {
-    let fields = f.fields;
-    let name = fields.subject;
     let from = name.body;
     let to = name.end;
     let a = forms::judge_within(room, n, p, 112, Nest::Set, Kind::Foreign, s, from, to);
@@ -29,18 +19,9 @@ pub fn name_and_country(
 }
 
 // Rules 116 to 119. O is 10, ST is 8.
-pub fn organization_and_state(
-    room: &mut [u8],
-    n: usize,
-    p: Profile,
-    s: &[u8],
-    f: Facts,
-    issuer: &[u8],
-) -> usize
-    ensures { λ r. ⌜ Puts p (organizationRows (caseOf (now (s .entry)) f (now (issuer .entry)))) n (now (room .entry)) r (now (room .exit)) ⌝ }
+pub fn organization_and_state(room: &mut [u8], n: usize, p: Profile, s: &[u8], name: Head) -> usize
+    ensures { λ r. ⌜ Puts p (organizationRows (now (s .entry)) name) n (now (room .entry)) r (now (room .exit)) ⌝ }
 {
-    let fields = f.fields;
-    let name = fields.subject;
     let from = name.body;
     let to = name.end;
     let a = forms::judge_one(room, n, p, 116, Kind::Attribute(10), s, name);

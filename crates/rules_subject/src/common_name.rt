@@ -1,12 +1,11 @@
 // Rules 120 and 121: the first CN among the subject's alternative names, and sets of one attribute.
+use certificate::Slot;
 use der::Head;
-use facts::Facts;
 use forms::Kind;
 use forms::Nest;
 use profiles::Profile;
 ghost use mathlib.Core.Path.{_≡_};
 ghost use mathlib.Core.Bool.{_&&_};
-ghost use Rattle.facts.specs.Case.{caseOf};
 ghost use Rattle.report.specs.Rows.{Puts};
 ghost use Rattle.rules_subject.specs.CommonName.{isUnnamed, nameRows};
 
@@ -22,25 +21,15 @@ fn is_unnamed(judged: bool, s: &[u8], cn: Head, alternative: Head) -> bool
     false
 }
 
-// Slot 7 is the subject alternative name.
-pub fn name_and_sets(
-    room: &mut [u8],
-    n: usize,
-    p: Profile,
-    s: &[u8],
-    f: Facts,
-    issuer: &[u8],
-) -> usize
-    ensures { λ r. ⌜ Puts p (nameRows (caseOf (now (s .entry)) f (now (issuer .entry)))) n (now (room .entry)) r (now (room .exit)) ⌝ }
+// The slot is the subject alternative name's.
+pub fn name_and_sets(room: &mut [u8], n: usize, p: Profile, s: &[u8], name: Head, v: Slot) -> usize
+    ensures { λ r. ⌜ Puts p (nameRows (now (s .entry)) name v) n (now (room .entry)) r (now (room .exit)) ⌝ }
 {
-    let fields = f.fields;
-    let alternative = f.slots[7];
-    let name = fields.subject;
     let from = name.body;
     let to = name.end;
     let cn = forms::first_within(Nest::Set, Kind::Attribute(3), p, s, from, to);
-    let judged = profiles::holds(p, 120) & alternative.good;
-    let unnamed = is_unnamed(judged, s, cn, alternative.element);
+    let judged = profiles::holds(p, 120) & v.good;
+    let unnamed = is_unnamed(judged, s, cn, v.element);
     let a = report::judge(room, n, p, 120, unnamed, cn);
     forms::judge_each(room, a, p, 121, Kind::Crowded, s, from, to)
 }

@@ -19,7 +19,10 @@ pub fn subject_rules(
 ) -> usize
     ensures { λ r. ⌜ Puts p (subjectRows p (caseOf (now (s .entry)) f (now (issuer .entry)))) n (now (room .entry)) r (now (room .exit)) ⌝ }
 {
-    let first = attributes::name_and_country(room, n, p, s, f, issuer);
-    let second = attributes::organization_and_state(room, first, p, s, f, issuer);
-    common_name::name_and_sets(room, second, p, s, f, issuer)
+    let c = facts::fields_of(f);
+    let slots = facts::slots_of(f);
+    let name = c.subject;
+    let first = attributes::name_and_country(room, n, p, s, name);
+    let second = attributes::organization_and_state(room, first, p, s, name);
+    common_name::name_and_sets(room, second, p, s, name, slots[7])
 }

@@ -1,7 +1,8 @@
 -- Rules 412 to 414 (document 01, "Rules on extensions"). Slot 7 is the subject alternative name.
 use mathlib.Core.List.{List, [], _∷_}
+use Prim.Native.Nat.{ℕ}
 use Rattle.der.specs.declared.header.Head.{Head}
-use Rattle.facts.specs.Case.{Case, slot}
+use Rattle.certificate.specs.declared.slots.Slot.{Slot}
 use Rattle.forms.specs.Values.{whereGood}
 use Rattle.der.specs.Members.{membersIn}
 use Rattle.hosts.specs.Hosts.{hasUnderscore, noHost}
@@ -9,21 +10,21 @@ use Rattle.forms.specs.Kinds.{isNoDnsName}
 use Rattle.report.specs.Forms.{filter}
 use Rattle.report.specs.Rows.{Row, _⦂_}
 
-abbrev pub namesOf : Case → List Head
-namesOf f = membersIn (f .octets) (slot f 7 .element)
+abbrev pub namesOf : List ℕ → Slot → List Head
+namesOf s v = membersIn s (v .element)
 
 -- 412 "each name not a dNSName"
-abbrev pub rule412 : Case → List Head
-rule412 f = whereGood (slot f 7) (filter isNoDnsName (namesOf f))
+abbrev pub rule412 : List ℕ → Slot → List Head
+rule412 s v = whereGood v (filter isNoDnsName (namesOf s v))
 
 -- 413 "each dNSName with an underscore"
-abbrev pub rule413 : Case → List Head
-rule413 f = whereGood (slot f 7) (filter (hasUnderscore (f .octets)) (namesOf f))
+abbrev pub rule413 : List ℕ → Slot → List Head
+rule413 s v = whereGood v (filter (hasUnderscore s) (namesOf s v))
 
 -- 414 "each dNSName not of two or more labels of 1 to 63 letters, digits, hyphens (underscore passes here), no hyphen at either end of a label, at
 -- most 253 octets"
-abbrev pub rule414 : Case → List Head
-rule414 f = whereGood (slot f 7) (filter (noHost (f .octets)) (namesOf f))
+abbrev pub rule414 : List ℕ → Slot → List Head
+rule414 s v = whereGood v (filter (noHost s) (namesOf s v))
 
-unfoldable pub hostRows : Case → List Row
-hostRows f = 412 ⦂ rule412 f ∷ 413 ⦂ rule413 f ∷ 414 ⦂ rule414 f ∷ []
+unfoldable pub hostRows : List ℕ → Slot → List Row
+hostRows s v = 412 ⦂ rule412 s v ∷ 413 ⦂ rule413 s v ∷ 414 ⦂ rule414 s v ∷ []

@@ -9,7 +9,7 @@ use Rattle.der.specs.Contents.{contentsOf}
 use Rattle.der.specs.Members.{firstIn}
 use Rattle.der.specs.declared.header.Head.{Head}
 use Rattle.certificate.specs.Issuer.{KeyIdentifier}
-use Rattle.facts.specs.Case.{Case, slot}
+use Rattle.certificate.specs.declared.slots.Slot.{Slot}
 use Rattle.forms.specs.Values.{whereGood}
 use Rattle.report.specs.Rows.{Row, _⦂_, brokenAt}
 
@@ -27,22 +27,22 @@ unfoldable pub isHeldBy : List ℕ → Head → KeyIdentifier → Bool
 isHeldBy s v key = sameKey (authorityKey s v) key
 
 -- 401 "key identifier present and equal to the issuer's subject key id (broken if the issuer has none, or a bad one)"
-abbrev pub rule401 : Case → List Head
-rule401 f = whereGood (slot f 1) (brokenAt (not (isHeldBy (f .octets) (slot f 1 .element) (f .issuer .key))) (slot f 1 .holder))
+abbrev pub rule401 : List ℕ → KeyIdentifier → Slot → List Head
+rule401 s key v = whereGood v (brokenAt (not (isHeldBy s (v .element) key)) (v .holder))
 
 abbrev pub isFilled : Head → Bool
 isFilled v = ltb (v .body) (v .end)
 
 -- 402 "basic constraints empty"
-abbrev pub rule402 : Case → List Head
-rule402 f = whereGood (slot f 2) (brokenAt (isFilled (slot f 2 .element)) (slot f 2 .holder))
+abbrev pub rule402 : Slot → List Head
+rule402 v = whereGood v (brokenAt (isFilled (v .element)) (v .holder))
 
 abbrev pub isTwenty : Head → Bool
 isTwenty v = eqb (v .end - v .body) 20
 
 -- 403 "subject key id 20 octets"
-abbrev pub rule403 : Case → List Head
-rule403 f = whereGood (slot f 3) (brokenAt (not (isTwenty (slot f 3 .element))) (slot f 3 .holder))
+abbrev pub rule403 : Slot → List Head
+rule403 v = whereGood v (brokenAt (not (isTwenty (v .element))) (v .holder))
 
-unfoldable pub keyIdentifierRows : Case → List Row
-keyIdentifierRows f = 401 ⦂ rule401 f ∷ 402 ⦂ rule402 f ∷ 403 ⦂ rule403 f ∷ []
+unfoldable pub keyIdentifierRows : List ℕ → KeyIdentifier → Slot → Slot → Slot → List Row
+keyIdentifierRows s key authority constraints subject = 401 ⦂ rule401 s key authority ∷ 402 ⦂ rule402 constraints ∷ 403 ⦂ rule403 subject ∷ []

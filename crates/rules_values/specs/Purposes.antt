@@ -1,8 +1,9 @@
 -- Rules 407 and 408 (document 01, "Rules on extensions"). Slot 5 is extended key usage.
 use mathlib.Core.Bool.{not}
 use mathlib.Core.List.{List, [], _∷_}
+use Prim.Native.Nat.{ℕ}
 use Rattle.der.specs.declared.header.Head.{Head}
-use Rattle.facts.specs.Case.{Case, slot}
+use Rattle.certificate.specs.declared.slots.Slot.{Slot}
 use Rattle.forms.specs.Values.{whereGood}
 use Rattle.der.specs.Elements.{anyOf}
 use Rattle.der.specs.Members.{membersIn}
@@ -11,16 +12,16 @@ use Rattle.forms.specs.Kinds.{isWantedPurpose, isOtherPurpose}
 use Rattle.report.specs.Forms.{filter}
 use Rattle.report.specs.Rows.{Row, _⦂_, brokenAt}
 
-abbrev pub purposesOf : Case → List Head
-purposesOf f = membersIn (f .octets) (slot f 5 .element)
+abbrev pub purposesOf : List ℕ → Slot → List Head
+purposesOf s v = membersIn s (v .element)
 
 -- 407 "serverAuth (S) or OCSPSigning (O) present"
-abbrev pub rule407 : Profile → Case → List Head
-rule407 p f = whereGood (slot f 5) (brokenAt (not (anyOf (isWantedPurpose p (f .octets)) (purposesOf f))) (slot f 5 .holder))
+abbrev pub rule407 : Profile → List ℕ → Slot → List Head
+rule407 p s v = whereGood v (brokenAt (not (anyOf (isWantedPurpose p s) (purposesOf s v))) (v .holder))
 
 -- 408 "each other purpose, clientAuth excepted for S"
-abbrev pub rule408 : Profile → Case → List Head
-rule408 p f = whereGood (slot f 5) (filter (isOtherPurpose p (f .octets)) (purposesOf f))
+abbrev pub rule408 : Profile → List ℕ → Slot → List Head
+rule408 p s v = whereGood v (filter (isOtherPurpose p s) (purposesOf s v))
 
-unfoldable pub purposeRows : Profile → Case → List Row
-purposeRows p f = 407 ⦂ rule407 p f ∷ 408 ⦂ rule408 p f ∷ []
+unfoldable pub purposeRows : Profile → List ℕ → Slot → List Row
+purposeRows p s v = 407 ⦂ rule407 p s v ∷ 408 ⦂ rule408 p s v ∷ []

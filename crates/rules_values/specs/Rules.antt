@@ -8,8 +8,13 @@ use Rattle.rules_values.specs.Hosts.{hostRows}
 use Rattle.rules_values.specs.Access.{accessRows}
 use Rattle.rules_values.specs.Points.{pointRows}
 use Rattle.profiles.specs.declared.fields.Profile.{Profile}
-use Rattle.facts.specs.Case.{Case}
+use Rattle.facts.specs.Case.{Case, slot}
 use Rattle.report.specs.Rows.{Row}
 
 unfoldable pub valueRows : Profile → Case → List Row
-valueRows p f = keyIdentifierRows f ++ (usageRows p f ++ (purposeRows p f ++ (policyRows p f ++ (hostRows f ++ (accessRows f ++ pointRows f)))))
+valueRows p f =
+    keyIdentifierRows (f .octets) (f .issuer .key) (slot f 1) (slot f 2) (slot f 3)
+    ++ (usageRows p (f .octets) (f .key .kind) (slot f 4)
+    ++ (purposeRows p (f .octets) (slot f 5)
+    ++ (policyRows p (f .octets) (slot f 6)
+    ++ (hostRows (f .octets) (slot f 7) ++ (accessRows (f .octets) (slot f 8) ++ pointRows (f .octets) (slot f 9))))))

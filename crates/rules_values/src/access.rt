@@ -1,27 +1,17 @@
 // Rules 415 to 417: the entries of the authority information access.
-use facts::Facts;
+use certificate::Slot;
 use forms::Kind;
 use locations::Method;
 use profiles::Profile;
-ghost use Rattle.facts.specs.Case.{caseOf};
 ghost use Rattle.report.specs.Rows.{Puts};
 ghost use Rattle.rules_values.specs.Access.{accessRows};
 
 // Slot 8 is authority information access.
-pub fn access_rules(
-    room: &mut [u8],
-    n: usize,
-    p: Profile,
-    s: &[u8],
-    f: Facts,
-    issuer: &[u8],
-) -> usize
-    ensures { λ r. ⌜ Puts p (accessRows (caseOf (now (s .entry)) f (now (issuer .entry)))) n (now (room .entry)) r (now (room .exit)) ⌝ }
+pub fn access_rules(room: &mut [u8], n: usize, p: Profile, s: &[u8], v: Slot) -> usize
+    ensures { λ r. ⌜ Puts p (accessRows (now (s .entry)) v) n (now (room .entry)) r (now (room .exit)) ⌝ }
 {
-    let v = f.slots[8];
-    let list = v.element;
-    let from = list.body;
-    let to = list.end;
+    let from = v.element.body;
+    let to = v.element.end;
     let ocsp = forms::none_of(Kind::UriBy(Method::Ocsp), p, s, from, to);
     let issuers = forms::none_of(Kind::UriBy(Method::CaIssuers), p, s, from, to);
     let a = forms::judge_value(room, n, p, 415, v, ocsp);

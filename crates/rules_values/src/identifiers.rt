@@ -1,10 +1,10 @@
 // Rules 401 to 403: both key identifiers, and basic constraints.
+use certificate::Issuer;
+use certificate::Slot;
 use der::Head;
-use facts::Facts;
 use profiles::Profile;
 ghost use mathlib.Core.Path.{_≡_};
-ghost use Rattle.certificate.specs.Issuer.{keyIdentifierOf};
-ghost use Rattle.facts.specs.Case.{caseOf};
+ghost use Rattle.certificate.specs.Issuer.{known, keyIdentifierOf};
 ghost use Rattle.report.specs.Rows.{Puts};
 ghost use Rattle.rules_values.specs.Identifiers.{isHeldBy, isFilled, isTwenty, keyIdentifierRows};
 
@@ -30,21 +30,22 @@ fn is_twenty(v: Head) -> bool
     octets::minus(v.end, v.body) == 20
 }
 
-// Slots 1 authority key id, 2 basic constraints, 3 subject key id.
+// The slots of the authority key id, of basic constraints and of the subject key id; `i` is read of the issuer's octets.
 pub fn identifier_rules(
     room: &mut [u8],
     n: usize,
     p: Profile,
     s: &[u8],
-    f: Facts,
+    authority: Slot,
+    constraints: Slot,
+    subject: Slot,
     issuer: &[u8],
+    i: Issuer,
 ) -> usize
-    ensures { λ r. ⌜ Puts p (keyIdentifierRows (caseOf (now (s .entry)) f (now (issuer .entry)))) n (now (room .entry)) r (now (room .exit)) ⌝ }
+    ensures { λ r. ⌜ Puts p
+        (keyIdentifierRows (now (s .entry)) (known (now (issuer .entry)) i .key) authority constraints subject)
+        n (now (room .entry)) r (now (room .exit)) ⌝ }
 {
-    let i = f.issuer;
-    let authority = f.slots[1];
-    let constraints = f.slots[2];
-    let subject = f.slots[3];
     let held = is_held_by(s, authority.element, issuer, i.has_key_id, i.key_id);
     let filled = is_filled(constraints.element);
     let twenty = is_twenty(subject.element);

@@ -25,11 +25,25 @@ pub fn value_rules(
 ) -> usize
     ensures { λ r. ⌜ Puts p (valueRows p (caseOf (now (s .entry)) f (now (issuer .entry)))) n (now (room .entry)) r (now (room .exit)) ⌝ }
 {
-    let first = identifiers::identifier_rules(room, n, p, s, f, issuer);
-    let second = usage::usage_rules(room, first, p, s, f, issuer);
-    let third = purposes::purpose_rules(room, second, p, s, f, issuer);
-    let fourth = policy::policy_rules(room, third, p, s, f, issuer);
-    let fifth = names::host_rules(room, fourth, p, s, f, issuer);
-    let sixth = access::access_rules(room, fifth, p, s, f, issuer);
-    points::point_rules(room, sixth, p, s, f, issuer)
+    let key = facts::key_of(f);
+    let kind = key.kind;
+    let i = facts::issuer_of(f);
+    let slots = facts::slots_of(f);
+    let first = identifiers::identifier_rules(
+        room,
+        n,
+        p,
+        s,
+        slots[1],
+        slots[2],
+        slots[3],
+        issuer,
+        i,
+    );
+    let second = usage::usage_rules(room, first, p, s, kind, slots[4]);
+    let third = purposes::purpose_rules(room, second, p, s, slots[5]);
+    let fourth = policy::policy_rules(room, third, p, s, slots[6]);
+    let fifth = names::host_rules(room, fourth, p, s, slots[7]);
+    let sixth = access::access_rules(room, fifth, p, s, slots[8]);
+    points::point_rules(room, sixth, p, s, slots[9])
 }

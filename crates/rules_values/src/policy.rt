@@ -1,27 +1,17 @@
 // Rules 409 to 411: certificate policies and their qualifiers.
-use facts::Facts;
+use certificate::Slot;
 use forms::Kind;
 use forms::Nest;
 use profiles::Profile;
-ghost use Rattle.facts.specs.Case.{caseOf};
 ghost use Rattle.report.specs.Rows.{Puts};
 ghost use Rattle.rules_values.specs.Policies.{policyRows};
 
 // Slot 6 is certificate policies.
-pub fn policy_rules(
-    room: &mut [u8],
-    n: usize,
-    p: Profile,
-    s: &[u8],
-    f: Facts,
-    issuer: &[u8],
-) -> usize
-    ensures { λ r. ⌜ Puts p (policyRows p (caseOf (now (s .entry)) f (now (issuer .entry)))) n (now (room .entry)) r (now (room .exit)) ⌝ }
+pub fn policy_rules(room: &mut [u8], n: usize, p: Profile, s: &[u8], v: Slot) -> usize
+    ensures { λ r. ⌜ Puts p (policyRows p (now (s .entry)) v) n (now (room .entry)) r (now (room .exit)) ⌝ }
 {
-    let v = f.slots[6];
-    let list = v.element;
-    let from = list.body;
-    let to = list.end;
+    let from = v.element.body;
+    let to = v.element.end;
     let federal = forms::none_of(Kind::FederalPolicy, p, s, from, to);
     let forum = forms::none_of(Kind::ForumPolicy, p, s, from, to);
     let a = forms::judge_value(room, n, p, 409, v, federal);

@@ -1,9 +1,8 @@
 // Rules 404 and 405: the bits of key usage.
 use certificate::KeyKind;
-use facts::Facts;
+use certificate::Slot;
 use profiles::Profile;
 ghost use mathlib.Core.Path.{_≡_};
-ghost use Rattle.facts.specs.Case.{caseOf};
 ghost use Rattle.report.specs.Rows.{Puts};
 ghost use Rattle.rules_values.specs.Usage.{allowedUsage, usageRows};
 
@@ -19,19 +18,9 @@ fn allowed_usage(p: Profile, kind: KeyKind) -> u8
 }
 
 // Slot 4 is key usage.
-pub fn usage_rules(
-    room: &mut [u8],
-    n: usize,
-    p: Profile,
-    s: &[u8],
-    f: Facts,
-    issuer: &[u8],
-) -> usize
-    ensures { λ r. ⌜ Puts p (usageRows p (caseOf (now (s .entry)) f (now (issuer .entry)))) n (now (room .entry)) r (now (room .exit)) ⌝ }
+pub fn usage_rules(room: &mut [u8], n: usize, p: Profile, s: &[u8], kind: KeyKind, v: Slot) -> usize
+    ensures { λ r. ⌜ Puts p (usageRows p (now (s .entry)) kind v) n (now (room .entry)) r (now (room .exit)) ⌝ }
 {
-    let key = f.key;
-    let kind = key.kind;
-    let v = f.slots[4];
     let signs = usages::signs(s, v.element);
     let other = usages::other_usage(s, v.element, allowed_usage(p, kind));
     let a = forms::judge_value(room, n, p, 404, v, !signs);

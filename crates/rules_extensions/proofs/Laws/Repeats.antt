@@ -6,15 +6,12 @@ use mathlib.Core.List.{List, [], _∷_, List·Memᴰ·not-nil, List·Memᴰ·cas
 use mathlib.Core.Logic.{⊎-elim}
 use mathlib.Core.Bool.{Bool, true, false, _&&_, _||_}
 use Prim.Native.Nat.{ℕ}
-use Rattle.rules_extensions.specs.Identifiers.{extensionsIn, repeatsIn}
+use Rattle.rules_extensions.specs.Identifiers.{repeatsIn}
 use Rattle.der.specs.Elements.{anyOf}
 use Rattle.der.specs.Members.{membersIn}
 use Rattle.der.specs.declared.header.Head.{Head}
-use Rattle.certificate.specs.Fields.{certificateOf}
 use Rattle.certificate.specs.Extensions.{seenBefore}
-use Rattle.certificate.specs.Issuer.{Known}
 use Rattle.certificate.specs.Slots.{hasRepeats}
-use Rattle.facts.specs.Case.{caseIn}
 use Rattle.forms.specs.Kinds.{isRepeat}
 use Rattle.report.specs.Order.{In}
 
@@ -29,14 +26,13 @@ none-passes test (x ∷ xs) e h i = go (test x) refl e (none-passes test xs)
     go false t n ih = ⊎-elim (λ (q : h ≡ x). ap test q ∙ t) (ih n h) (List·Memᴰ·cases-cons i)
 
 pub repeat-seen :
-    (s : List ℕ) (k : Known) (h : Head) → In h (extensionsIn (caseIn s k))
-    → isRepeat (repeatsIn (caseIn s k)) s h ≡ seenBefore s (certificateOf s .extensions .body) h
+    (s : List ℕ) (list h : Head) → In h (membersIn s list) → isRepeat (repeatsIn list (hasRepeats s list)) s h ≡ seenBefore s (list .body) h
 unfolding hasRepeats
-repeat-seen s k h i = go (anyOf seen (membersIn s (certificateOf s .extensions))) refl
+repeat-seen s list h i = go (anyOf seen (membersIn s list)) refl
   where
     seen : Head → Bool
-    seen = seenBefore s (certificateOf s .extensions .body)
+    seen = seenBefore s (list .body)
 
-    go : (b : Bool) → anyOf seen (membersIn s (certificateOf s .extensions)) ≡ b → (b && seen h) ≡ seen h
+    go : (b : Bool) → anyOf seen (membersIn s list) ≡ b → (b && seen h) ≡ seen h
     go true t = refl
-    go false t = sym (none-passes seen (membersIn s (certificateOf s .extensions)) t h i)
+    go false t = sym (none-passes seen (membersIn s list) t h i)

@@ -7,11 +7,12 @@ use mathlib.Core.Bool.{Bool, not, _&&_}
 use Prim.Native.Nat.{ℕ, _<_}
 use borrow.Author.Tests.{not-true}
 use Rattle.rules_extensions.specs.Slots.{isMissing, isMiscriticalAt, listPlace, rowAt, rowsOver}
-use Rattle.rules_extensions.specs.Identifiers.{extensionsIn, identifierRows}
+use Rattle.rules_extensions.specs.Identifiers.{identifierRows}
 use Rattle.rules_extensions.specs.Rules.{extensionRows}
 use Rattle.rules_extensions.specs.declared.slots.Question.{Question}
 use Rattle.rules_extensions.specs.declared.slots.Question.the-variants.{Missing, Criticality, Value}
 use Rattle.octets.proofs.Laws.Tests.{and-l}
+use Rattle.der.specs.Members.{membersIn}
 use Rattle.der.specs.declared.header.Head.{Head}
 use Rattle.asn.specs.Answers.{certificateVerdict}
 use Rattle.asn.specs.declared.fitting.Verdict.the-variants.{Fits}
@@ -42,16 +43,16 @@ module _ (s : List ℕ) (e : certificateVerdict s ≡ Fits) (p : Profile) (known
       let v = slot (caseIn s known) k in
       at-ok _ (not (isMissing v) && not (v .good)) _ (λ t. holder-element s e k l (not-true (isMissing v) (and-l (not (isMissing v)) (not (v .good)) t)))
 
-  over-ok : (question : Question) → RowsOk (Element s) (rowsOver question p (caseIn s known))
+  over-ok : (question : Question) → RowsOk (Element s) (rowsOver question p (listPlace (certificateOf s)) (caseIn s known .slots))
   unfolding rowsOver rowsFrom
   over-ok question = slots-ok _ (slot-ok question)
 
   -- ---- identifiers
 
-  each : (rule : ℕ) (bad : Head → Bool) → RowOk (Element s) (rule ⦂ filter bad (extensionsIn (caseIn s known)))
+  each : (rule : ℕ) (bad : Head → Bool) → RowOk (Element s) (rule ⦂ filter bad (membersIn s (certificateOf s .extensions)))
   each rule bad = each-ok rule bad (children-apart s _ _) (in-list s e)
 
-  identifiers-ok : RowsOk (Element s) (identifierRows p (caseIn s known))
+  identifiers-ok : RowsOk (Element s) (identifierRows p s (certificateOf s .extensions) (caseIn s known .repeated))
   unfolding identifierRows
   identifiers-ok = more-rows (each 361 _) (more-rows (each 362 _) (more-rows (each 363 _) no-rows))
 

@@ -12,9 +12,13 @@ returns c =
     let third = fourth .before .before .before .before in
     let second = third .before .before .before .before in
     let first = second .before .before .before .before in
-    first .over-slots .ensures ⟫ second .over-slots2 .ensures ⟫ third .over-slots3 .ensures ⟫ fourth .identifiers .ensures
+    let list = first .before .before in
+    let repeats = list .before in
+    let slots = repeats .before in
+    rw (← slots .before .fields-of .ensures, ← slots .slots-of .ensures, ← repeats .has-repeats .ensures, ← list .list-place .ensures)
+    (first .over-slots .ensures ⟫ second .over-slots2 .ensures ⟫ third .over-slots3 .ensures ⟫ fourth .identifiers .ensures)
 
 pub extension-rules-spec : {M : Type 1} → statement M
 extension-rules-spec =
     tie.close
-    (tie.spec (λ c κs. tt) (λ c κs. tt) (λ c κs. tt) (λ c κs. tt) (λ c. search needs) returns)
+    (tie.spec (λ c κs. tt) (λ c κs. tt) (λ c κs. tt) (λ c κs. tt) (λ c κs. tt) (λ c κs. tt) (λ c κs. tt) (λ c κs. tt) (λ c. search needs) returns)

@@ -11,9 +11,11 @@ returns c =
     let third = c .before .before in
     let second = third .before .before .before .before in
     let first = second .before .before .before .before in
-    first .version-and-serial .ensures ⟫ second .algorithms-and-name .ensures ⟫ third .validity .ensures
+    let issuer = first .before .before in
+    rw (← issuer .issuer-of .ensures, ← issuer .before .fields-of .ensures)
+    (first .version-and-serial .ensures ⟫ second .algorithms-and-name .ensures ⟫ third .validity .ensures)
 
 pub field-rules-spec : {M : Type 1} → statement M
 field-rules-spec =
     tie.close
-    (tie.spec (λ c κs. tt) (λ c κs. tt) (λ c κs. tt) (λ c. search needs) returns)
+    (tie.spec (λ c κs. tt) (λ c κs. tt) (λ c κs. tt) (λ c κs. tt) (λ c κs. tt) (λ c. search needs) returns)

@@ -14,25 +14,25 @@ use Rattle.der.specs.declared.header.Head.{Head}
 use Rattle.numbers.specs.Numbers.{modulusOk, exponentOk}
 use Rattle.primes.specs.Primes.{primesBelow, freeOf}
 use Rattle.profiles.specs.declared.fields.Profile.{Profile}
-use Rattle.facts.specs.Case.{Case}
+use Rattle.certificate.specs.declared.key.Key.{Key}
 use Rattle.facts.specs.Kinds.{isRsa}
 use Rattle.report.specs.Rows.{Row, _⦂_, brokenAt, Puts}
 
-module _ (p : Profile) (f : Case) where
+module _ (p : Profile) (s : List ℕ) (k : Key) where
   -- the number that an INTEGER of the key stands for
   abbrev number : Head → ℕ
-  number h = numberOf (contentsOf (f .octets) h)
+  number h = numberOf (contentsOf s h)
 
   abbrev pub byKey : RsaKey → List Row
   byKey key =
-      204 ⦂ brokenAt (isRsa (f .key .kind) && not (key .kept)) (f .key .bits)
-      ∷ 205 ⦂ brokenAt ((isRsa (f .key .kind) && key .kept) && not (modulusOk (number (key .modulus)))) (key .modulus)
-      ∷ 206 ⦂ brokenAt ((isRsa (f .key .kind) && key .kept) && not (exponentOk (number (key .exponent)))) (key .exponent)
-      ∷ 207 ⦂ brokenAt ((isRsa (f .key .kind) && key .kept) && not (freeOf (primesBelow 752) (number (key .modulus)))) (key .modulus)
+      204 ⦂ brokenAt (isRsa (k .kind) && not (key .kept)) (k .bits)
+      ∷ 205 ⦂ brokenAt ((isRsa (k .kind) && key .kept) && not (modulusOk (number (key .modulus)))) (key .modulus)
+      ∷ 206 ⦂ brokenAt ((isRsa (k .kind) && key .kept) && not (exponentOk (number (key .exponent)))) (key .exponent)
+      ∷ 207 ⦂ brokenAt ((isRsa (k .kind) && key .kept) && not (freeOf (primesBelow 752) (number (key .modulus)))) (key .modulus)
       ∷ []
 
   pub rsa-noted :
-      {n r : ℕ} {room last : List ℕ} {key : RsaKey} → key ≡ rsaKeyOf (f .octets) (f .key .bits)
-      → Puts p (byKey key) n room r last → Puts p (rsaRows f) n room r last
+      {n r : ℕ} {room last : List ℕ} {key : RsaKey} → key ≡ rsaKeyOf s (k .bits)
+      → Puts p (byKey key) n room r last → Puts p (rsaRows s k) n room r last
   unfolding rsaRows rsaKeyOf
   rsa-noted {n} {r} {room} {last} e q = subst (λ (x : RsaKey). Puts p (byKey x) n room r last) e q

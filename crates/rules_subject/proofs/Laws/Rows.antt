@@ -24,6 +24,7 @@ use Rattle.profiles.specs.Fields.{commonName}
 use Rattle.profiles.specs.declared.fields.Profile.{Profile}
 use Rattle.certificate.specs.Fields.{certificateOf}
 use Rattle.certificate.specs.Issuer.{Known}
+use Rattle.certificate.specs.declared.slots.Slot.{Slot}
 use Rattle.certificate.proofs.Laws.Named.{named}
 use Rattle.subjects.specs.Types.{attributeValue}
 use Rattle.hosts.specs.Names.{someNamed}
@@ -78,23 +79,21 @@ module _ (s : List ℕ) (e : certificateVerdict s ≡ Fits) where
   one : (rule : ℕ) (isX : Head → Bool) → RowOk (Element s) (rule ⦂ onesOf subject (filter isX (attributesIn s subject)))
   one rule isX = one-ok rule isX subject attributes-apart (field-elements s e .subject) attribute
 
-  module _ (k : Known) where
-    abbrev cn : Head
-    cn = firstCommonName (caseIn s k)
+  abbrev cn : Head
+  cn = firstCommonName s subject
 
-    -- 120 is not judged without a CN
-    cn-element : (alternative : Head) → isUnnamed s cn alternative ≡ true → Element s cn
-    unfolding isUnnamed
-    cn-element alternative t =
-        let unnamed = not (someNamed s (contentsOf s (attributeValue s cn)) (membersIn s alternative)) in
-        let some = not-true (isEmpty cn) (and-l (not (isEmpty cn)) unnamed t) in
-        attribute cn (first-among (hasArc s commonName) (subject .end) (attributesIn s subject) some)
+  -- 120 is not judged without a CN
+  cn-element : (alternative : Head) → isUnnamed s cn alternative ≡ true → Element s cn
+  unfolding isUnnamed
+  cn-element alternative t =
+      let unnamed = not (someNamed s (contentsOf s (attributeValue s cn)) (membersIn s alternative)) in
+      let some = not-true (isEmpty cn) (and-l (not (isEmpty cn)) unnamed t) in
+      attribute cn (first-among (hasArc s commonName) (subject .end) (attributesIn s subject) some)
 
-    cn-ok : RowOk (Element s) (120 ⦂ rule120 (caseIn s k))
-    cn-ok =
-        let v = slot (caseIn s k) 7 in
-        let bad = isUnnamed s cn (v .element) in
-        rw (← good-at v bad cn) (at-ok 120 (v .good && bad) cn (λ t. cn-element (v .element) (and-r (v .good) bad t)))
+  cn-ok : (v : Slot) → RowOk (Element s) (120 ⦂ rule120 s subject v)
+  cn-ok v =
+      let bad = isUnnamed s cn (v .element) in
+      rw (← good-at v bad cn) (at-ok 120 (v .good && bad) cn (λ t. cn-element (v .element) (and-r (v .good) bad t)))
 
   pub subject-ok : (p : Profile) (k : Known) → RowsOk (Element s) (subjectRows p (caseIn s k))
   unfolding subjectRows countryRows organizationRows nameRows
@@ -107,5 +106,5 @@ module _ (s : List ℕ) (e : certificateVerdict s ≡ Fits) where
       (more-rows (each 117 _)
       (more-rows (one 118 _)
       (more-rows (each 119 _)
-      (more-rows (cn-ok k)
+      (more-rows (cn-ok (slot (caseIn s k) 7))
       (more-rows (each-ok 121 _ (children-apart s (subject .end) (subject .body)) in-name) no-rows)))))))))

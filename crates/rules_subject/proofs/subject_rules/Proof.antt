@@ -9,11 +9,13 @@ returns : tie.Need-returns
 unfolding subjectRows
 returns c =
     let third = c .before .before in
-    let second = third .before .before .before .before in
+    let second = third .before .before .before .before .before in
     let first = second .before .before .before .before in
-    first .name-and-country .ensures ⟫ second .organization-and-state .ensures ⟫ third .name-and-sets .ensures
+    let slots = first .before .before .before in
+    rw (← slots .slots-of .ensures, ← slots .before .fields-of .ensures)
+    (first .name-and-country .ensures ⟫ second .organization-and-state .ensures ⟫ third .name-and-sets .ensures)
 
 pub subject-rules-spec : {M : Type 1} → statement M
 subject-rules-spec =
     tie.close
-    (tie.spec (λ c κs. tt) (λ c κs. tt) (λ c κs. tt) (λ c. search needs) returns)
+    (tie.spec (λ c κs. tt) (λ c κs. tt) (λ c κs. tt) (λ c κs. tt) (λ c. search needs) (λ c κs. tt) (λ c. search needs) returns)

@@ -25,8 +25,9 @@ use Rattle.asn.specs.declared.fitting.Verdict.the-variants.{Fits}
 use Rattle.profiles.specs.declared.fields.Profile.{Profile}
 use Rattle.certificate.specs.Fields.{certificateOf}
 use Rattle.certificate.specs.Slots.{slotCount, emptySlot, slotsOf}
+use Rattle.certificate.specs.declared.key.KeyKind.{KeyKind}
 use Rattle.certificate.specs.declared.slots.Slot.{Slot}
-use Rattle.certificate.specs.Issuer.{Known}
+use Rattle.certificate.specs.Issuer.{KeyIdentifier, Known}
 use Rattle.facts.specs.Case.{caseIn}
 use Rattle.facts.specs.Elements.{Element, AllElements}
 use Rattle.facts.proofs.Laws.Members.{AllMembers, members-of, listed-fit}
@@ -85,20 +86,20 @@ module _ (s : List ℕ) (e : certificateVerdict s ≡ Fits) where
   -- ---- rules 401 to 419
 
   module _ (p : Profile) (k : Known) where
-    identifiers-ok : RowsOk (Element s) (keyIdentifierRows (caseIn s k))
+    identifiers-ok : (key : KeyIdentifier) → RowsOk (Element s) (keyIdentifierRows s key (slot 1) (slot 2) (slot 3))
     unfolding keyIdentifierRows
-    identifiers-ok =
+    identifiers-ok key =
         more-rows (at 1 (omega arith) 401 _) (more-rows (at 2 (omega arith) 402 _) (more-rows (at 3 (omega arith) 403 _) no-rows))
 
-    usage-ok : RowsOk (Element s) (usageRows p (caseIn s k))
+    usage-ok : (kind : KeyKind) → RowsOk (Element s) (usageRows p s kind (slot 4))
     unfolding usageRows
-    usage-ok = more-rows (at 4 (omega arith) 404 _) (more-rows (at 4 (omega arith) 405 _) no-rows)
+    usage-ok kind = more-rows (at 4 (omega arith) 404 _) (more-rows (at 4 (omega arith) 405 _) no-rows)
 
-    purposes-ok : RowsOk (Element s) (purposeRows p (caseIn s k))
+    purposes-ok : RowsOk (Element s) (purposeRows p s (slot 5))
     unfolding purposeRows valueOf judged extKeyUsage
     purposes-ok = more-rows (at 5 (omega arith) 407 _) (more-rows (each 5 (omega arith) oid refl 408 _) no-rows)
 
-    policies-ok : RowsOk (Element s) (policyRows p (caseIn s k))
+    policies-ok : RowsOk (Element s) (policyRows p s (slot 6))
     unfolding policyRows
     policies-ok =
         more-rows (at 6 (omega arith) 409 _)
@@ -106,24 +107,24 @@ module _ (s : List ℕ) (e : certificateVerdict s ≡ Fits) where
         (more-rows (good-ok 411 (slot 6) _ (λ t. each-ok 411 _ (qualifiers-apart s (slot 6 .element .end) (slot 6 .element .body)) (qualifier t)))
         no-rows))
 
-    hosts-ok : RowsOk (Element s) (hostRows (caseIn s k))
+    hosts-ok : RowsOk (Element s) (hostRows s (slot 7))
     unfolding hostRows valueOf judged generalNames
     hosts-ok =
         more-rows (each 7 (omega arith) generalName refl 412 _)
         (more-rows (each 7 (omega arith) generalName refl 413 _) (more-rows (each 7 (omega arith) generalName refl 414 _) no-rows))
 
-    access-ok : RowsOk (Element s) (accessRows (caseIn s k))
+    access-ok : RowsOk (Element s) (accessRows s (slot 8))
     unfolding accessRows valueOf judged authorityInfoAccess
     access-ok =
         more-rows (at 8 (omega arith) 415 _)
         (more-rows (at 8 (omega arith) 416 _) (more-rows (each 8 (omega arith) accessDescription refl 417 _) no-rows))
 
-    points-ok : RowsOk (Element s) (pointRows (caseIn s k))
+    points-ok : RowsOk (Element s) (pointRows s (slot 9))
     unfolding pointRows valueOf judged cRLDistributionPoints
     points-ok = more-rows (at 9 (omega arith) 418 _) (more-rows (each 9 (omega arith) distributionPoint refl 419 _) no-rows)
 
     pub values-ok : RowsOk (Element s) (valueRows p (caseIn s k))
     unfolding valueRows
     values-ok =
-        ok-join identifiers-ok
-        (ok-join usage-ok (ok-join purposes-ok (ok-join policies-ok (ok-join hosts-ok (ok-join access-ok points-ok)))))
+        ok-join (identifiers-ok _)
+        (ok-join (usage-ok _) (ok-join purposes-ok (ok-join policies-ok (ok-join hosts-ok (ok-join access-ok points-ok)))))

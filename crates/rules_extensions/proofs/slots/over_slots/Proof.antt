@@ -2,15 +2,15 @@
 use mathlib.Core.Path.{_≡_, refl, _∙_}
 use mathlib.Core.List.{List}
 use Prim.Native.Nat.{ℕ, _-_, _≤_}
-use lib.ListN.{length, getD}
+use lib.ListN.{length}
 use borrow.Author.Needs.{needs}
 use Rattle.rules_extensions.specs.Slots.{rowAt, rowsOver}
 use Rattle.rules_extensions.specs.declared.slots.Question.{Question}
-use Rattle.der.specs.Members.{missing}
 use Rattle.der.specs.declared.header.Head.{Head}
 use Rattle.profiles.specs.declared.fields.Profile.{Profile}
-use Rattle.certificate.specs.Slots.{slotCount, emptySlot}
+use Rattle.certificate.specs.Slots.{slotCount}
 use Rattle.certificate.specs.declared.slots.Slot.{Slot}
+use Rattle.facts.specs.Case.{slotIn}
 use Rattle.report.specs.Rows.{Row, findingsOf}
 use Rattle.report.proofs.Laws.Putting.{Rest, rest-start}
 use Rattle.rules_extensions.proofs.Laws.Slots.{rowsFrom, slots-turn, slots-end}
@@ -18,16 +18,16 @@ use Rattle.rules_extensions.proofs.slots.over_slots.Statement.{statemen
 use Rattle.rules_extensions.proofs.slots.over_slots.Tie as tie
 
 abbrev rowIn : Question → Profile → Head → List Slot → ℕ → Row
-rowIn question p list each k = rowAt question p list k (getD each k (emptySlot (missing 0)))
+rowIn question p list each k = rowAt question p list k (slotIn each k)
 
 abbrev Inv-loop : tie.InvT-loop
-Inv-loop room₀ n question p s issuer list each count₀ slot₀ room count slot =
+Inv-loop room₀ n question p list each count₀ slot₀ room count slot =
     (slot ≤ slotCount)
     × (length room ≡ length room₀)
     × Rest (findingsOf p (rowsFrom (rowIn question p list each) slot)) count room (findingsOf p (rowsFrom (rowIn question p list each) 1)) n room₀
 
 abbrev μ-loop : tie.MeasureT-loop
-μ-loop room₀ n question p s issuer list each count₀ slot₀ room count slot = slotCount - slot
+μ-loop room₀ n question p list each count₀ slot₀ room count slot = slotCount - slot
 
 loop-holds : tie.Need-loop-holds Inv-loop μ-loop
 loop-holds c = (search needs, refl, rest-start _ _ _)
@@ -46,11 +46,10 @@ returns : tie.Need-returns Inv-loop μ-loop
 unfolding rowsOver rowsFrom
 returns c =
     let loop = c .before .loop in
-    let list = c .before .before .before in
-    rw (← list .list-place .ensures) (slots-end _ (loop .slot) _ (c .loop-test .left) (loop .inv .2))
+    slots-end _ (loop .slot) _ (c .loop-test .left) (loop .inv .2)
 
 pub over-slots-spec : {M : Type 1} → statement M
 over-slots-spec =
     tie.close
-    (tie.spec Inv-loop μ-loop (λ c κs. tt) loop-holds (λ c. search needs) (λ c. search needs) (λ c κs. search needs) (λ c. search needs)
+    (tie.spec Inv-loop μ-loop loop-holds (λ c. search needs) (λ c. search needs) (λ c κs. search needs) (λ c. search needs)
     (λ c. search needs) loop-again (λ c. c .before .loop .inv .1) returns)

@@ -21,12 +21,12 @@ returns c =
     let exponent = asked .before in
     let modulus = exponent .before in
     let rsa = modulus .before .before in
-    let a = rsa .before .before .before .before .before .before .args in
+    let a = rsa .before .before .before .before .args in
     let key = rsa .before .rsa-key .result in
     let free = freeOf (primesBelow 752) (numberOf (contentsOf (now (a .s)) (key .modulus))) in
     let last = puts-asked (a .p) 207 (rsa .is-rsa .result && key .kept) (not free) (key .modulus)
     (rw (divided .is-divided .ensures, asked .holds .ensures) at (fourth .judge4 .ensures)) in
-    rsa-noted (a .p) _ (rsa .before .rsa-key .ensures)
+    rsa-noted (a .p) _ _ (rsa .before .rsa-key .ensures)
     (rw (← rsa .is-rsa .ensures, ← modulus .is-bad-modulus .ensures, ← exponent .is-bad-exponent .ensures)
     (first .judge .ensures ⟫ second .judge2 .ensures ⟫ third .judge3 .ensures ⟫ last))
 

@@ -1,10 +1,7 @@
 -- `rules_subject::common_name::name_and_sets` meets its contract. Assumes nothing.
-use lib.ListN.{getD}
 use borrow.Author.Needs.{needs}
 use Rattle.rules_subject.specs.CommonName.{isUnnamed, nameRows}
 use denote.Ref.{now}
-use Rattle.der.specs.Members.{missing}
-use Rattle.certificate.specs.Slots.{emptySlot}
 use Rattle.forms.proofs.Laws.Values.{good-at}
 use Rattle.report.proofs.Laws.Rows.{_⟫_, puts-asked}
 use Rattle.rules_subject.proofs.common_name.name_and_sets.Statement.{statement}
@@ -18,9 +15,8 @@ returns c =
     let judged = name .before .before in
     let asked = judged .before .before in
     let found = asked .before in
-    let a = found .before .before .before .before .before .before .before .args in
-    -- `t5` is what the borrow checker calls the facts, which are read by parts
-    let v = getD (a .t5 .slots) 7 (emptySlot (missing 0)) in
+    let a = found .before .before .before .args in
+    let v = a .v in
     let cn = found .first-within .result in
     let bad = isUnnamed (now (a .s)) cn (v .element) in
     let first = puts-asked (a .p) 120 (v .good) bad cn (rw (judged .is-unnamed .ensures, asked .holds .ensures) at (name .judge .ensures)) in
@@ -29,4 +25,4 @@ returns c =
 pub name-and-sets-spec : {M : Type 1} → statement M
 name-and-sets-spec =
     tie.close
-    (tie.spec (λ c. search needs) (λ c κs. tt) (λ c κs. tt) (λ c κs. tt) (λ c κs. tt) (λ c κs. tt) (λ c. search needs) returns)
+    (tie.spec (λ c κs. tt) (λ c κs. tt) (λ c κs. tt) (λ c κs. tt) (λ c κs. tt) (λ c. search needs) returns)

@@ -16,4 +16,4 @@ returns c =
 pub host-rules-spec : {M : Type 1} → statement M
 host-rules-spec =
     tie.close
-    (tie.spec (λ c. search needs) (λ c κs. tt) (λ c κs. tt) (λ c κs. tt) (λ c. search needs) returns)
+    (tie.spec (λ c κs. tt) (λ c κs. tt) (λ c κs. tt) (λ c. search needs) returns)
