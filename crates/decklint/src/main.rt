@@ -5,6 +5,7 @@
 // program cannot choose its exit status: it is 0 unless a signal ends it, as a write to a pipe that nobody reads does.
 use libc::STDIN_FILENO;
 use libc::STDOUT_FILENO;
+ghost use mathlib.Core.Path.{_≡_};
 ghost use Prim.Native.Nat.{_≤_};
 ghost use lib.ListN.{length};
 
@@ -20,6 +21,20 @@ const ITEM: usize = 327741;
 
 // Lines wait here to be written, so that there are few writes.
 const WAITING: usize = 393216;
+
+// Room for a deck, and for lines that wait. A proof that has so long an array before it goes through all of it, so the
+// arrays are made here, and `main` knows their lengths alone.
+fn deck_space() -> [u8; SPACE]
+    ensures { λ r. ⌜ 65537 ≡ length r ⌝ }
+{
+    [0; SPACE]
+}
+
+fn line_space() -> [u8; WAITING]
+    ensures { λ r. ⌜ 393216 ≡ length r ⌝ }
+{
+    [0; WAITING]
+}
 
 // How many octets were read, and whether a read failed after them.
 struct Input {
@@ -83,8 +98,8 @@ fn list_deck(deck: &[u8], out: &mut [u8]) {
 }
 
 fn main() {
-    let mut space = [0u8; SPACE];
-    let mut out = [0u8; WAITING];
+    let mut space = deck_space();
+    let mut out = line_space();
     let input = read_all(&mut space);
     if input.failed {
         os::fail(b"decklint: standard input");

@@ -37,21 +37,21 @@ pub fn facts_of(s: &[u8], issuer: &[u8]) -> Facts
     }
 }
 
-// The parts of the facts. A function that takes the facts apart has all their fields in each step of its derivation, so the
-// rules take parts, and only these functions take facts apart.
-pub fn fields_of(f: Facts) -> Certificate
+// The parts of the facts. Rules take parts, and only these functions take the facts apart: where a function does that, each
+// step of its check carries every field.
+pub fn fields_in(f: Facts) -> Certificate
     ensures { λ r. ⌜ r ≡ f .fields ⌝ }
 {
     f.fields
 }
 
-pub fn key_of(f: Facts) -> Key
+pub fn key_in(f: Facts) -> Key
     ensures { λ r. ⌜ r ≡ f .key ⌝ }
 {
     f.key
 }
 
-pub fn slots_of(f: Facts) -> [Slot; SLOTS]
+pub fn slots_in(f: Facts) -> [Slot; SLOTS]
     ensures { λ r. ⌜ r ≡ f .slots ⌝ }
 {
     f.slots
@@ -63,7 +63,7 @@ pub fn has_repeats(f: Facts) -> bool
     f.repeated
 }
 
-pub fn issuer_of(f: Facts) -> Issuer
+pub fn issuer_in(f: Facts) -> Issuer
     ensures { λ r. ⌜ r ≡ f .issuer ⌝ }
 {
     f.issuer

@@ -21,8 +21,8 @@ pub fn extension_rules(
 ) -> usize
     ensures { λ r. ⌜ Puts p (extensionRows p (caseOf (now (s .entry)) f (now (issuer .entry)))) n (now (room .entry)) r (now (room .exit)) ⌝ }
 {
-    let c = facts::fields_of(f);
-    let each = facts::slots_of(f);
+    let c = facts::fields_in(f);
+    let each = facts::slots_in(f);
     let repeated = facts::has_repeats(f);
     let list = slots::list_place(c);
     let missing = slots::over_slots(room, n, Question::Missing, p, list, each);

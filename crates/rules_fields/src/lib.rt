@@ -20,8 +20,8 @@ pub fn field_rules(
 ) -> usize
     ensures { λ r. ⌜ Puts p (fieldRows p (caseOf (now (s .entry)) f (now (issuer .entry)))) n (now (room .entry)) r (now (room .exit)) ⌝ }
 {
-    let c = facts::fields_of(f);
-    let i = facts::issuer_of(f);
+    let c = facts::fields_in(f);
+    let i = facts::issuer_in(f);
     let first = version::version_and_serial(room, n, p, s, c);
     let second = algorithms::algorithms_and_name(room, first, p, s, c, issuer, i.name);
     period::validity(room, second, p, c)

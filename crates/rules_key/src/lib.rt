@@ -14,7 +14,7 @@ ghost use Rattle.rules_key.specs.Rules.{keyRows};
 pub fn key_rules(room: &mut [u8], n: usize, p: Profile, s: &[u8], f: Facts, issuer: &[u8]) -> usize
     ensures { λ r. ⌜ Puts p (keyRows p (caseOf (now (s .entry)) f (now (issuer .entry)))) n (now (room .entry)) r (now (room .exit)) ⌝ }
 {
-    let k = facts::key_of(f);
+    let k = facts::key_in(f);
     let first = algorithm::algorithm_rules(room, n, p, s, k);
     rsa::rsa_rules(room, first, p, s, k)
 }

@@ -19,8 +19,8 @@ pub fn subject_rules(
 ) -> usize
     ensures { λ r. ⌜ Puts p (subjectRows p (caseOf (now (s .entry)) f (now (issuer .entry)))) n (now (room .entry)) r (now (room .exit)) ⌝ }
 {
-    let c = facts::fields_of(f);
-    let slots = facts::slots_of(f);
+    let c = facts::fields_in(f);
+    let slots = facts::slots_in(f);
     let name = c.subject;
     let first = attributes::name_and_country(room, n, p, s, name);
     let second = attributes::organization_and_state(room, first, p, s, name);

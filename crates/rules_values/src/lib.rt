@@ -25,10 +25,10 @@ pub fn value_rules(
 ) -> usize
     ensures { λ r. ⌜ Puts p (valueRows p (caseOf (now (s .entry)) f (now (issuer .entry)))) n (now (room .entry)) r (now (room .exit)) ⌝ }
 {
-    let key = facts::key_of(f);
+    let key = facts::key_in(f);
     let kind = key.kind;
-    let i = facts::issuer_of(f);
-    let slots = facts::slots_of(f);
+    let i = facts::issuer_in(f);
+    let slots = facts::slots_in(f);
     let first = identifiers::identifier_rules(
         room,
         n,

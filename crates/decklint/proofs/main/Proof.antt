@@ -57,6 +57,6 @@ returns-3 c = search needs
 pub main-spec : {M : Type 1} → statement M
 main-spec =
     tie.close
-    (tie.spec slice-aggregate-read-all read-all-requires slice-aggregate-fail fail-requires returns
+    (tie.spec (λ c κs. tt) (λ c κs. tt) slice-aggregate-read-all read-all-requires slice-aggregate-fail fail-requires returns
     array-share-prefix-space slice-aggregate-list-deck slice-aggregate-list-deck-2 list-deck-requires
     slice-aggregate-too-long too-long-requires slice-aggregate-write write-requires returns-2 returns-3)

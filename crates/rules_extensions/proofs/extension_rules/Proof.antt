@@ -15,7 +15,7 @@ returns c =
     let list = first .before .before in
     let repeats = list .before in
     let slots = repeats .before in
-    rw (← slots .before .fields-of .ensures, ← slots .slots-of .ensures, ← repeats .has-repeats .ensures, ← list .list-place .ensures)
+    rw (← slots .before .fields-in .ensures, ← slots .slots-in .ensures, ← repeats .has-repeats .ensures, ← list .list-place .ensures)
     (first .over-slots .ensures ⟫ second .over-slots2 .ensures ⟫ third .over-slots3 .ensures ⟫ fourth .identifiers .ensures)
 
 pub extension-rules-spec : {M : Type 1} → statement M

@@ -12,7 +12,7 @@ returns c =
     let second = third .before .before .before .before in
     let first = second .before .before .before .before in
     let issuer = first .before .before in
-    rw (← issuer .issuer-of .ensures, ← issuer .before .fields-of .ensures)
+    rw (← issuer .issuer-in .ensures, ← issuer .before .fields-in .ensures)
     (first .version-and-serial .ensures ⟫ second .algorithms-and-name .ensures ⟫ third .validity .ensures)
 
 pub field-rules-spec : {M : Type 1} → statement M

@@ -10,7 +10,7 @@ unfolding keyRows
 returns c =
     let second = c .before .before in
     let first = second .before .before .before .before in
-    rw (← first .before .before .key-of .ensures) (first .algorithm-rules .ensures ⟫ second .rsa-rules .ensures)
+    rw (← first .before .before .key-in .ensures) (first .algorithm-rules .ensures ⟫ second .rsa-rules .ensures)
 
 pub key-rules-spec : {M : Type 1} → statement M
 key-rules-spec = tie.close (tie.spec (λ c κs. tt) (λ c κs. tt) (λ c κs. tt) (λ c. search needs) returns)

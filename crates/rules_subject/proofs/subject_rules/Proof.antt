@@ -12,7 +12,7 @@ returns c =
     let second = third .before .before .before .before .before in
     let first = second .before .before .before .before in
     let slots = first .before .before .before in
-    rw (← slots .slots-of .ensures, ← slots .before .fields-of .ensures)
+    rw (← slots .slots-in .ensures, ← slots .before .fields-in .ensures)
     (first .name-and-country .ensures ⟫ second .organization-and-state .ensures ⟫ third .name-and-sets .ensures)
 
 pub subject-rules-spec : {M : Type 1} → statement M

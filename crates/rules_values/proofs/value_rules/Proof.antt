@@ -17,7 +17,7 @@ returns c =
     let second = third .before .before .before .before .before in
     let first = second .before .before .before .before .before in
     let slots = first .before .before .before .before .before in
-    rw (← slots .slots-of .ensures, ← slots .before .issuer-of .ensures, ← slots .before .before .key-of .ensures)
+    rw (← slots .slots-in .ensures, ← slots .before .issuer-in .ensures, ← slots .before .before .key-in .ensures)
     (first .identifier-rules .ensures
     ⟫ second .usage-rules .ensures
     ⟫ third .purpose-rules .ensures
