@@ -4,7 +4,7 @@ use Rattle.rules_fields.proofs.algorithms.is_sha256_rsa.Statement.{stat
 use Rattle.rules_fields.proofs.algorithms.is_sha256_rsa.Tie as tie
 
 returns : tie.Need-returns
-returns c = cc
+returns c = c .contents-are .ensures
 
 pub is-sha256-rsa-spec : {M : Type 1} → statement M
 is-sha256-rsa-spec =
