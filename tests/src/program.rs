@@ -142,7 +142,7 @@ fn repository() -> PathBuf {
 
 /// The folder of the toolchain's kit: what `RATTLE_HOME` names, or the one above the folder of the
 /// command `rt`.
-fn kit() -> Result<PathBuf, String> {
+pub fn kit() -> Result<PathBuf, String> {
     if let Some(home) = env::var_os("RATTLE_HOME") {
         return Ok(PathBuf::from(home));
     }

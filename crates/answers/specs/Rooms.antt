@@ -29,11 +29,11 @@ sizeIn frame at = min (numberOf (octetsFrom frame (at + 1) 3)) largest
 abbrev pub cutIn : List ℕ → ℕ → ℕ
 cutIn frame at = at + 6 + pairAt frame (at + 4)
 
-abbrev pub certificateIn : List ℕ → ℕ → List ℕ
-certificateIn frame at = take (pairAt frame (at + 4)) (drop (at + 6) frame)
+abbrev pub framedCertificate : List ℕ → ℕ → List ℕ
+framedCertificate frame at = take (pairAt frame (at + 4)) (drop (at + 6) frame)
 
-abbrev pub issuerIn : List ℕ → ℕ → List ℕ
-issuerIn frame at = drop (cutIn frame at) frame
+abbrev pub framedIssuer : List ℕ → ℕ → List ℕ
+framedIssuer frame at = drop (cutIn frame at) frame
 
 -- the room then, where `used` is what the call leaves in the part that is lent to it: as it was where the frame is too short for its own lengths or
 -- asks for more room than there is
@@ -44,13 +44,13 @@ roomAround frame at used room =
 -- kind 12, the linter's
 abbrev pub roomOfCall : List ℕ → List ℕ → List ℕ
 roomOfCall frame room =
-    roomAround frame 0 (roomOf (certificateIn frame 0) (issuerIn frame 0) (octetAt frame 0) (freshRoom (sizeIn frame 0))) room
+    roomAround frame 0 (roomOf (framedCertificate frame 0) (framedIssuer frame 0) (octetAt frame 0) (freshRoom (sizeIn frame 0))) room
 
 -- kind 13, the writer's: the record's number in four octets, and then the same
 abbrev pub roomOfWriting : List ℕ → List ℕ → List ℕ
 roomOfWriting frame room =
     roomAround frame 4
-    (writeRoom (quadAt frame 0) (octetAt frame 4) (certificateIn frame 4) (issuerIn frame 4) (freshRoom (sizeIn frame 4))) room
+    (writeRoom (quadAt frame 0) (octetAt frame 4) (framedCertificate frame 4) (framedIssuer frame 4) (freshRoom (sizeIn frame 4))) room
 
 -- ---- a deck, kind 14: the room is lent again at each step
 

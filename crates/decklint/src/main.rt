@@ -1,8 +1,10 @@
 // Lists the deck on standard input (document 01, "The deck"): prints what `printed` of the crate `listing` says of it.
 //
 // Nothing is written before the whole deck has been read, so where a read fails standard output stays empty. Where a write
-// fails the program ends there, and the listing lacks its last line. Either is said on standard error, by a line. A
-// program cannot choose its exit status: it is 0 unless a signal ends it, as a write to a pipe that nobody reads does.
+// fails the program ends there, and the listing lacks its last line. Either is said on standard error, by a line. An
+// argument gets the usage line there, and nothing is read. A program cannot choose its exit status: it is 0 unless a
+// signal ends it, as a write to a pipe that nobody reads does; `bin/decklint` makes a status of what was said.
+use libc::STDERR_FILENO;
 use libc::STDIN_FILENO;
 use libc::STDOUT_FILENO;
 ghost use mathlib.Core.Path.{_≡_};
@@ -97,7 +99,8 @@ fn list_deck(deck: &[u8], out: &mut [u8]) {
     write(out, end);
 }
 
-fn main() {
+// Lists the deck on standard input.
+fn list_input() {
     let mut space = deck_space();
     let mut out = line_space();
     let input = read_all(&mut space);
@@ -112,4 +115,15 @@ fn main() {
         let end = listing::too_long(&mut out, 0);
         write(&out, end);
     }
+}
+
+fn say_usage() {
+    io::write_all(STDERR_FILENO, b"usage: decklint < DECK\n");
+}
+
+fn main() {
+    if os::arg_count() != 1 {
+        return say_usage();
+    }
+    list_input();
 }

@@ -3,7 +3,8 @@
 // NUMBER and PROFILE are decimal digits, CERTIFICATE and ISSUER name files in DER. The record's blocks go to standard
 // output. A refusal goes to standard error, as `refused 3: the profile is not 1, 2 or 3`, and then nothing goes to
 // standard output; so it is where the arguments are no such four, which the usage line says, and where a file cannot
-// be read. The exit status is 0 in each case, since a Rattle program has no other.
+// be read. The exit status is 0 in each case, since a Rattle program has no other; `bin/deckpack` makes a status of what
+// was said.
 mod decimals;
 mod files;
 mod words;

@@ -11,7 +11,7 @@ use lib.ListN.{length, take, drop, length-drop}
 use lib.Seq.{take-all, length-take-le}
 use borrow.Author.Tests.{le-leb, lt-leb}
 use Rattle.octets.specs.Numbers.{pairAt}
-use Rattle.answers.specs.Rooms.{freshRoom, sizeIn, cutIn, certificateIn, issuerIn, roomAround}
+use Rattle.answers.specs.Rooms.{freshRoom, sizeIn, cutIn, framedCertificate, framedIssuer, roomAround}
 
 module _ (frame : List ℕ) (at : ℕ) (used room : List ℕ) where
   pub too-short : length frame < cutIn frame at → room ≡ roomAround frame at used room
@@ -29,12 +29,12 @@ module _ (frame : List ℕ) (at : ℕ) (used room : List ℕ) where
 
 -- what was read of the frame: the certificate's length k, and the room's n
 module _ (frame : List ℕ) (at k n : ℕ) (long : k ≡ pairAt frame (at + 4)) (wide : n ≡ sizeIn frame at) (h : at + 6 + k ≤ length frame) where
-  certificate-in : take (at + 6 + k - (at + 6)) (drop (at + 6) frame) ≡ certificateIn frame at
+  certificate-in : take (at + 6 + k - (at + 6)) (drop (at + 6) frame) ≡ framedCertificate frame at
   certificate-in =
       let e : at + 6 + k - (at + 6) ≡ pairAt frame (at + 4) = omega (arith, long) in
       ap (λ (m : ℕ). take m (drop (at + 6) frame)) e
 
-  issuer-in : take (length frame - (at + 6 + k)) (drop (at + 6 + k) frame) ≡ issuerIn frame at
+  issuer-in : take (length frame - (at + 6 + k)) (drop (at + 6 + k) frame) ≡ framedIssuer frame at
   issuer-in =
       take-all (length frame - (at + 6 + k)) (drop (at + 6 + k) frame) (omega (arith, length-drop (at + 6 + k) frame))
       ∙ ap (λ (m : ℕ). drop (at + 6 + m) frame) long
@@ -43,9 +43,9 @@ module _ (frame : List ℕ) (at k n : ℕ) (long : k ≡ pairAt frame (at + 4)) 
     pub lends :
         last ≡ call (take (at + 6 + k - (at + 6)) (drop (at + 6) frame)) (take (length frame - (at + 6 + k)) (drop (at + 6 + k) frame))
         (freshRoom (length (take n room)))
-        → last ++ drop n room ≡ roomAround frame at (call (certificateIn frame at) (issuerIn frame at) (freshRoom (sizeIn frame at))) room
+        → last ++ drop n room ≡ roomAround frame at (call (framedCertificate frame at) (framedIssuer frame at) (freshRoom (sizeIn frame at))) room
     lends e =
         let size : length (take n room) ≡ sizeIn frame at = length-take-le n room l ∙ wide in
-        let used : last ≡ call (certificateIn frame at) (issuerIn frame at) (freshRoom (sizeIn frame at)) =
+        let used : last ≡ call (framedCertificate frame at) (framedIssuer frame at) (freshRoom (sizeIn frame at)) =
         e ∙ (λ i. call (certificate-in i) (issuer-in i) (freshRoom (size i))) in
         ap₂ (λ (x : List ℕ) (m : ℕ). x ++ drop m room) used wide ∙ lent frame at _ room (omega (arith, long)) (omega (arith, wide))

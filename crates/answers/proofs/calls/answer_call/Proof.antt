@@ -6,7 +6,7 @@ use native.Mathlib.Omega.{arith}
 use Rattle.lint.specs.Answers.{roomOf}
 use lib.Seq.{length-take-le}
 use borrow.Author.Needs.{needs}
-use Rattle.answers.specs.Rooms.{freshRoom, sizeIn, certificateIn, issuerIn, roomAround}
+use Rattle.answers.specs.Rooms.{freshRoom, sizeIn, framedCertificate, framedIssuer, roomAround}
 use Rattle.answers.proofs.Laws.Lending.{too-short, too-wide, lends}
 use Rattle.answers.proofs.calls.answer_call.Statement.{statement}
 use Rattle.answers.proofs.calls.answer_call.Tie as tie
@@ -31,7 +31,7 @@ returns-3 c =
     let profile : ℕ = x .before .before .octet .result in
     lends frame 0 (x .pair .result) (x .before .number .result) (x .pair .ensures .0) (x .before .number .ensures) (omega arith) room (omega arith)
     (λ certificate issuer lent. roomOf certificate issuer profile lent) _ (c .before .before .call-linter .ensures)
-    ∙ ap (λ (p : ℕ). roomAround frame 0 (roomOf (certificateIn frame 0) (issuerIn frame 0) p (freshRoom (sizeIn frame 0))) room)
+    ∙ ap (λ (p : ℕ). roomAround frame 0 (roomOf (framedCertificate frame 0) (framedIssuer frame 0) p (freshRoom (sizeIn frame 0))) room)
     (x .before .before .octet .ensures)
 
 pub answer-call-spec : {M : Type 1} → statement M

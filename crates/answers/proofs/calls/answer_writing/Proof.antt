@@ -6,7 +6,7 @@ use native.Mathlib.Omega.{arith}
 use lib.Seq.{length-take-le}
 use borrow.Author.Needs.{needs}
 use Rattle.writer.specs.Answers.{writeRoom}
-use Rattle.answers.specs.Rooms.{freshRoom, sizeIn, certificateIn, issuerIn, roomAround}
+use Rattle.answers.specs.Rooms.{freshRoom, sizeIn, framedCertificate, framedIssuer, roomAround}
 use Rattle.answers.proofs.Laws.Lending.{too-short, too-wide, lends}
 use Rattle.answers.proofs.calls.answer_writing.Statement.{statement}
 use Rattle.answers.proofs.calls.answer_writing.Tie as tie
@@ -35,7 +35,7 @@ returns-3 c =
     lends frame 4 (x .pair3 .result) (x .before .number .result) (x .pair3 .ensures .0) (x .before .number .ensures) (omega arith) room (omega arith)
     (λ certificate issuer lent. writeRoom (65536 * high .result + low .result) profile certificate issuer lent) _ (c .before .before .call-writer .ensures)
     ∙ (λ i. roomAround frame 4
-    (writeRoom (65536 * high .ensures .0 i + low .ensures .0 i) (x .before .before .octet .ensures i) (certificateIn frame 4) (issuerIn frame 4)
+    (writeRoom (65536 * high .ensures .0 i + low .ensures .0 i) (x .before .before .octet .ensures i) (framedCertificate frame 4) (framedIssuer frame 4)
     (freshRoom (sizeIn frame 4)))
     room)
 

@@ -1,11 +1,11 @@
--- `decklint::main` is safe and ends. Assumes nothing.
+-- `decklint::list_input` is safe and ends. Assumes nothing.
 use mathlib.Core.Path.{sym}
 use native.Mathlib.Omega.{arith}
 use lib.Seq.{length-take-le}
 use borrow.Author.Needs.{needs}
 use Rattle.texts.proofs.Laws.Putting.{put-inside}
-use Rattle.decklint.proofs.main.Statement.{statement}
-use Rattle.decklint.proofs.main.Tie as tie
+use Rattle.decklint.proofs.list_input.Statement.{statement}
+use Rattle.decklint.proofs.list_input.Tie as tie
 
 slice-aggregate-read-all : tie.Need-slice-aggregate-read-all
 slice-aggregate-read-all c = search needs
@@ -54,8 +54,8 @@ returns-2 c = search needs
 returns-3 : tie.Need-returns-3
 returns-3 c = search needs
 
-pub main-spec : {M : Type 1} → statement M
-main-spec =
+pub list-input-spec : {M : Type 1} → statement M
+list-input-spec =
     tie.close
     (tie.spec (λ c κs. tt) (λ c κs. tt) slice-aggregate-read-all read-all-requires slice-aggregate-fail fail-requires returns
     array-share-prefix-space slice-aggregate-list-deck slice-aggregate-list-deck-2 list-deck-requires
