@@ -25,7 +25,7 @@ const ITEM: usize = 327741;
 const WAITING: usize = 393216;
 
 // Room for a deck, and for lines that wait. A proof that has so long an array before it goes through all of it, so the
-// arrays are made here, and `main` knows their lengths alone.
+// arrays are made here, and `list_input` knows their lengths alone.
 fn deck_space() -> [u8; SPACE]
     ensures { λ r. ⌜ 65537 ≡ length r ⌝ }
 {

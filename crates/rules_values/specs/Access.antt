@@ -13,12 +13,9 @@ use Rattle.locations.specs.declared.access.Method.the-variants.{Ocsp, CaIssuers
 use Rattle.report.specs.Forms.{filter}
 use Rattle.report.specs.Rows.{Row, _⦂_, brokenAt}
 
-abbrev pub entriesIn : List ℕ → Slot → List Head
-entriesIn s v = membersIn s (v .element)
-
 -- an entry with this method and a URI
 abbrev pub uriWanted : Method → List ℕ → Slot → List Head
-uriWanted method s v = whereGood v (brokenAt (not (anyOf (uriBy s method) (entriesIn s v))) (v .holder))
+uriWanted method s v = whereGood v (brokenAt (not (anyOf (uriBy s method) (membersIn s (v .element)))) (v .holder))
 
 -- 415 "an OCSP entry with a URI"
 abbrev pub rule415 : List ℕ → Slot → List Head
@@ -30,7 +27,7 @@ rule416 s v = uriWanted CaIssuers s v
 
 -- 417 "each caIssuers entry not an HTTP URI"
 abbrev pub rule417 : List ℕ → Slot → List Head
-rule417 s v = whereGood v (filter (notHttpBy s CaIssuers) (entriesIn s v))
+rule417 s v = whereGood v (filter (notHttpBy s CaIssuers) (membersIn s (v .element)))
 
 unfoldable pub accessRows : List ℕ → Slot → List Row
 accessRows s v = 415 ⦂ rule415 s v ∷ 416 ⦂ rule416 s v ∷ 417 ⦂ rule417 s v ∷ []

@@ -15,16 +15,13 @@ use Rattle.forms.specs.declared.nests.Nest.the-variants.{Policy}
 use Rattle.report.specs.Forms.{filter}
 use Rattle.report.specs.Rows.{Row, _⦂_, brokenAt}
 
-abbrev pub policiesOf : List ℕ → Slot → List Head
-policiesOf s v = membersIn s (v .element)
-
 -- 409 "a policy below 2.16.840.1.101.3.2.1.3"
 abbrev pub rule409 : List ℕ → Slot → List Head
-rule409 s v = whereGood v (brokenAt (not (anyOf (policyBelow s) (policiesOf s v))) (v .holder))
+rule409 s v = whereGood v (brokenAt (not (anyOf (policyBelow s) (membersIn s (v .element)))) (v .holder))
 
 -- 410 "2.23.140.1.2.1 (1) or 2.23.140.1.2.2 (2), from the CA/Browser Forum"
 abbrev pub rule410 : Profile → List ℕ → Slot → List Head
-rule410 p s v = whereGood v (brokenAt (not (anyOf (isForumPolicy p s) (policiesOf s v))) (v .holder))
+rule410 p s v = whereGood v (brokenAt (not (anyOf (isForumPolicy p s) (membersIn s (v .element)))) (v .holder))
 
 -- 411 "each qualifier other than 1.3.6.1.5.5.7.2.1"
 abbrev pub rule411 : List ℕ → Slot → List Head

@@ -12,16 +12,13 @@ use Rattle.forms.specs.Kinds.{isWantedPurpose, isOtherPurpose}
 use Rattle.report.specs.Forms.{filter}
 use Rattle.report.specs.Rows.{Row, _⦂_, brokenAt}
 
-abbrev pub purposesOf : List ℕ → Slot → List Head
-purposesOf s v = membersIn s (v .element)
-
 -- 407 "serverAuth (S) or OCSPSigning (O) present"
 abbrev pub rule407 : Profile → List ℕ → Slot → List Head
-rule407 p s v = whereGood v (brokenAt (not (anyOf (isWantedPurpose p s) (purposesOf s v))) (v .holder))
+rule407 p s v = whereGood v (brokenAt (not (anyOf (isWantedPurpose p s) (membersIn s (v .element)))) (v .holder))
 
 -- 408 "each other purpose, clientAuth excepted for S"
 abbrev pub rule408 : Profile → List ℕ → Slot → List Head
-rule408 p s v = whereGood v (filter (isOtherPurpose p s) (purposesOf s v))
+rule408 p s v = whereGood v (filter (isOtherPurpose p s) (membersIn s (v .element)))
 
 unfoldable pub purposeRows : Profile → List ℕ → Slot → List Row
 purposeRows p s v = 407 ⦂ rule407 p s v ∷ 408 ⦂ rule408 p s v ∷ []

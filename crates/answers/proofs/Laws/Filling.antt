@@ -4,7 +4,7 @@
 -- Assumes nothing.
 use mathlib.Core.Path.{_≡_, sym, ap, subst, _∙_}
 use mathlib.Core.List.{List, [], _∷_, _++_}
-use Prim.Native.Nat.{ℕ, zero, suc, _+_, _%_, _≤_, _<_}
+use Prim.Native.Nat.{ℕ, zero, suc, _+_, _%_, _<_}
 use native.Mathlib.Omega.{arith}
 use lib.ListN.{length, set, take}
 use lib.Seq.{take-all, take-suc-set}
@@ -25,7 +25,10 @@ module _ (room : List ℕ) (i : ℕ) where
       let e : suc i ≡ i + 1 = omega arith in
       let none : i ≡ i + 0 = omega arith in
       subst (λ (k : ℕ). take k (set room i (i % 251)) ≡ freshRoom k) e
-      (take-suc-set room i (i % 251) l ∙ ap (λ (octets : List ℕ). octets ++ ((i % 251) ∷ [])) h ∙ ap (λ (k : ℕ). freshRoom i ++ ((k % 251) ∷ [])) none ∙ sym (pattern-more 0 i))
+      (take-suc-set room i (i % 251) l
+      ∙ ap (λ (octets : List ℕ). octets ++ ((i % 251) ∷ [])) h
+      ∙ ap (λ (k : ℕ). freshRoom i ++ ((k % 251) ∷ [])) none
+      ∙ sym (pattern-more 0 i))
 
   pub filled : take i room ≡ freshRoom i → i ≡ length room → room ≡ freshRoom (length room)
   filled h e = sym (take-all i room (omega arith)) ∙ h ∙ ap freshRoom e

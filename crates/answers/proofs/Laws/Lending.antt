@@ -10,8 +10,8 @@ use native.Mathlib.Omega.{arith}
 use lib.ListN.{length, take, drop, length-drop}
 use lib.Seq.{take-all, length-take-le}
 use borrow.Author.Tests.{le-leb, lt-leb}
-use Rattle.octets.specs.Numbers.{pairAt}
 use Rattle.answers.specs.Rooms.{freshRoom, sizeIn, cutIn, framedCertificate, framedIssuer, roomAround}
+use Rattle.octets.specs.Numbers.{pairAt}
 
 module _ (frame : List ℕ) (at : ℕ) (used room : List ℕ) where
   pub too-short : length frame < cutIn frame at → room ≡ roomAround frame at used room

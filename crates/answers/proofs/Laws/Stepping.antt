@@ -2,20 +2,19 @@
 --     goes-on     what a step leaves of the deck, and of the room, ends as before
 --     at-end      a step that passes no block
 -- Assumes nothing.
-use mathlib.Core.Path.{_≡_, refl, sym, ap, _∙_}
+use mathlib.Core.Path.{_≡_}
 use mathlib.Core.Logic.{⊎-elim}
 use mathlib.Core.List.{List}
-use Prim.Native.Nat.{ℕ, zero, suc, _+_, _*_, _≤_, _<_}
+use Prim.Native.Nat.{ℕ, _+_, _*_, _≤_, _<_}
 use native.Mathlib.Omega.{arith}
 use lib.ListN.{length}
+use Rattle.answers.specs.Rooms.{roomPast}
 use Rattle.blocks.proofs.Laws.Logic.{below-or-not}
-use Rattle.reader.specs.Events.{Event}
 use Rattle.reader.specs.Stepping.{itemBlocks, itemAt, roomAt}
 use Rattle.reader.proofs.Laws.Places.{from-nil}
 use Rattle.reader.proofs.Laws.Counts.{eventsFrom, reads-on}
 use Rattle.reader.proofs.Laws.Passing.{item-blocks, item-moves}
 use Rattle.reader.proofs.Laws.Walking.{room-is, room-ended}
-use Rattle.answers.specs.Rooms.{roomPast}
 
 module _ (d : List ℕ) (i : ℕ) (room : List ℕ) where
   inside : 512 * i < length d → roomPast (roomAt d i room) (eventsFrom d (i + itemBlocks (itemAt d i room))) ≡ roomPast room (eventsFrom d i)

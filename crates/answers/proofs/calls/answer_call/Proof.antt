@@ -3,10 +3,10 @@ use mathlib.Core.Path.{_≡_, sym, ap, _∙_}
 use mathlib.Core.List.{List}
 use Prim.Native.Nat.{ℕ}
 use native.Mathlib.Omega.{arith}
-use Rattle.lint.specs.Answers.{roomOf}
 use lib.Seq.{length-take-le}
 use borrow.Author.Needs.{needs}
 use Rattle.answers.specs.Rooms.{freshRoom, sizeIn, framedCertificate, framedIssuer, roomAround}
+use Rattle.lint.specs.Answers.{roomOf}
 use Rattle.answers.proofs.Laws.Lending.{too-short, too-wide, lends}
 use Rattle.answers.proofs.calls.answer_call.Statement.{statement}
 use Rattle.answers.proofs.calls.answer_call.Tie as tie

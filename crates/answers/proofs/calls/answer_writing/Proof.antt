@@ -5,8 +5,8 @@ use Prim.Native.Nat.{ℕ, _+_, _*_}
 use native.Mathlib.Omega.{arith}
 use lib.Seq.{length-take-le}
 use borrow.Author.Needs.{needs}
-use Rattle.writer.specs.Answers.{writeRoom}
 use Rattle.answers.specs.Rooms.{freshRoom, sizeIn, framedCertificate, framedIssuer, roomAround}
+use Rattle.writer.specs.Answers.{writeRoom}
 use Rattle.answers.proofs.Laws.Lending.{too-short, too-wide, lends}
 use Rattle.answers.proofs.calls.answer_writing.Statement.{statement}
 use Rattle.answers.proofs.calls.answer_writing.Tie as tie

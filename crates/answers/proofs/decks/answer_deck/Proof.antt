@@ -3,8 +3,8 @@ use mathlib.Core.Path.{ap, _∙_}
 use mathlib.Core.List.{List}
 use Prim.Native.Nat.{ℕ}
 use borrow.Author.Needs.{needs}
-use Rattle.reader.specs.Events.{events}
 use Rattle.answers.specs.Rooms.{roomPast}
+use Rattle.reader.specs.Events.{events}
 use Rattle.answers.proofs.decks.answer_deck.Statement.{statement}
 use Rattle.answers.proofs.decks.answer_deck.Tie as tie
 
