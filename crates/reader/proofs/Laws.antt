@@ -4,6 +4,7 @@ pub mod Places
 pub mod Starts
 pub mod Found
 pub mod Gathering
+pub mod Octets
 pub mod Stepping
 pub mod Walking
 pub mod Counts
