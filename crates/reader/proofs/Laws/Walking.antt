@@ -1,7 +1,7 @@
 -- Stepping through a whole deck, the same room lent again at each step.
 --     same-handed         in a room as long an event is handed over the same
 --     item-is, room-is    what a step hands out before the deck's end, and what it leaves in the room
---     room-ended          past the end it leaves the room as it was
+--     item-ended, room-ended     past the end it hands out the end, and leaves the room as it was
 --     handed-next         what is handed over from a position on: what a step hands out there, and the rest
 --     walked              it hands out the events of the deck, each as in the room at the start
 -- Assumes nothing.
@@ -58,9 +58,9 @@ event-stands false position bs = refl
 -- ---- a step
 
 module _ (d : List ℕ) (i : ℕ) where
-  ended : (room : List ℕ) → length d ≤ 512 * i → itemAt d i room ≡ Items.End
+  pub item-ended : (room : List ℕ) → length d ≤ 512 * i → itemAt d i room ≡ Items.End
   unfolding itemAt
-  ended room h = rw (le-ltb _ _ h)
+  item-ended room h = rw (le-ltb _ _ h)
 
   pub room-ended : (room : List ℕ) → length d ≤ 512 * i → roomAt d i room ≡ room
   unfolding roomAt
@@ -97,7 +97,7 @@ Later n d other =
 
 module _ (n : ℕ) (d other : List ℕ) (i : ℕ) (room : List ℕ) where
   past-end : length d ≤ 512 * i → walk (suc n) d i room ≡ allHandedOver other (eventsFrom d i)
-  past-end k = rw (ended d i room k, from-nil d i k)
+  past-end k = rw (item-ended d i room k, from-nil d i k)
 
   inside : Later n d other → length room ≡ length other → length (blocks d) ≤ i + suc n → 512 * i < length d
       → walk (suc n) d i room ≡ allHandedOver other (eventsFrom d i)
