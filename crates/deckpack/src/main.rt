@@ -5,12 +5,10 @@
 // standard output; so it is where the arguments are no such four, which the usage line says, and where a file cannot
 // be read. The exit status is 0 in each case, since a Rattle program has no other; `bin/deckpack` makes a status of what
 // was said.
-mod decimals;
-mod files;
 mod words;
 
-use decimals::Decimal;
-use files::Loaded;
+use streams::Loaded;
+use texts::Numeral;
 use writer::Placing;
 ghost use mathlib.Core.Path.{_≡_};
 ghost use Prim.Native.Nat.{min};
@@ -21,12 +19,17 @@ const ROOM: usize = 16896;
 // One octet more than a side may have: of a longer file so many are read, and the writer refuses them.
 const SIDE: usize = 8193;
 
+// Writes blocks to standard output.
+fn write_blocks(blocks: &[u8]) {
+    streams::write_out(blocks, b"standard output");
+}
+
 // Writes the record's blocks to standard output, or says why not.
 fn pack(number: u32, profile: u8, certificate: &[u8], issuer: &[u8]) {
     let mut room = [0u8; ROOM];
     let answer = writer::write_record(number, profile, certificate, issuer, &mut room);
     match answer {
-        Placing::Blocks(count) => files::write_out(&room[..512 * count]),
+        Placing::Blocks(count) => write_blocks(&room[..512 * count]),
         Placing::Refused(r) => words::say_refusal(r),
     }
 }
@@ -34,12 +37,12 @@ fn pack(number: u32, profile: u8, certificate: &[u8], issuer: &[u8]) {
 // The same of the files that the third and the fourth argument name.
 fn pack_files(number: u32, profile: u8) {
     let mut certificate = [0u8; SIDE];
-    let first = files::load(3, &mut certificate);
+    let first = streams::load(3, &mut certificate);
     let Loaded::Octets(n) = first else {
         return;
     };
     let mut issuer = [0u8; SIDE];
-    let second = files::load(4, &mut issuer);
+    let second = streams::load(4, &mut issuer);
     let Loaded::Octets(m) = second else {
         return;
     };
@@ -54,10 +57,10 @@ fn profile_octet(profile: u32) -> u8
 }
 
 // The number that argument i says.
-fn number_in(i: usize) -> Decimal {
+fn number_in(i: usize) -> Numeral {
     let mut text = io::buffer();
     let n = os::arg(i, &mut text);
-    decimals::decimal_of(&text[..n])
+    texts::decimal_of(&text[..n])
 }
 
 fn main() {
@@ -66,10 +69,10 @@ fn main() {
     }
     let first = number_in(1);
     let second = number_in(2);
-    let Decimal::Number(number) = first else {
+    let Numeral::Number(number) = first else {
         return words::say_usage();
     };
-    let Decimal::Number(profile) = second else {
+    let Numeral::Number(profile) = second else {
         return words::say_usage();
     };
     pack_files(number, profile_octet(profile));

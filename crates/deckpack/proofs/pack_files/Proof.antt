@@ -4,7 +4,7 @@ use Prim.Native.Nat.{_≤_}
 use lib.ListN.{length}
 use lib.Seq.{length-take-le}
 use borrow.Author.Needs.{needs}
-use Rattle.deckpack.proofs.Laws.Files.{octets-within}
+use Rattle.streams.proofs.Laws.Reading.{octets-within}
 use Rattle.deckpack.proofs.pack_files.Statement.{statement}
 use Rattle.deckpack.proofs.pack_files.Tie as tie
 
