@@ -1,0 +1,2 @@
+-- How a deck ends.
+pub mod Ending
