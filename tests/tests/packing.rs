@@ -13,7 +13,7 @@ use comparison::program::Program;
 use comparison::random::Random;
 use comparison::records::{largest, linted, of_length, of_two_blocks, tiny, LONGEST_SIDE};
 
-const USAGE: &str = "usage: deckpack NUMBER PROFILE CERTIFICATE ISSUER\n";
+const USAGE: &str = "usage: deckpack [DECK] NUMBER PROFILE CERTIFICATE ISSUER\n";
 const REFUSED_1: &str = "refused 1: the certificate has no octets, or more than 8,192\n";
 const REFUSED_2: &str = "refused 2: the issuer's certificate has no octets, or more than 8,192\n";
 const REFUSED_3: &str = "refused 3: the profile is not 1, 2 or 3\n";

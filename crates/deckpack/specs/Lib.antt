@@ -1,3 +1,2 @@
--- Decimal numbers, and what is read of a file.
-pub mod Decimals
-pub mod Files
+-- How a deck ends.
+pub mod Ending

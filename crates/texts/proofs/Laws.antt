@@ -2,3 +2,4 @@
 pub mod Putting
 pub mod Decimal
 pub mod Digits
+pub mod Numerals

@@ -1,3 +1,4 @@
 -- Texts as octets, and what putting one into a lent buffer does.
 pub mod Texts
 pub mod Putting
+pub mod Numerals

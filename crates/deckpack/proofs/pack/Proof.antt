@@ -31,11 +31,11 @@ mul-room c = omega (arith, blocks-fit (c .before))
 array-share-prefix-room : tie.Need-array-share-prefix-room
 array-share-prefix-room c = omega (arith, blocks-fit (c .before), c .before .before .before .before .write-record .kept .1 .1 .1 .1 .0)
 
-slice-aggregate-write-out : tie.Need-slice-aggregate-write-out
-slice-aggregate-write-out c = sym (length-take-le _ _ (omega (arith, blocks-fit (c .before .before))))
+slice-aggregate-hand-out : tie.Need-slice-aggregate-hand-out
+slice-aggregate-hand-out c = sym (length-take-le _ _ (omega (arith, blocks-fit (c .before .before))))
 
-write-out-requires : tie.Need-write-out-requires
-write-out-requires c κs = search needs
+hand-out-requires : tie.Need-hand-out-requires
+hand-out-requires c κs = search needs
 
 enum-known-answer-2 : tie.Need-enum-known-answer-2
 enum-known-answer-2 c = search needs
@@ -53,4 +53,4 @@ pub pack-spec : {M : Type 1} → statement M
 pack-spec =
     tie.close
     (tie.spec slice-aggregate-write-record write-record-requires enum-known-answer mul-room array-share-prefix-room
-    slice-aggregate-write-out write-out-requires enum-known-answer-2 say-refusal-requires returns returns-2)
+    slice-aggregate-hand-out hand-out-requires enum-known-answer-2 say-refusal-requires returns returns-2)

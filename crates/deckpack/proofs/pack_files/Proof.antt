@@ -4,7 +4,7 @@ use Prim.Native.Nat.{_≤_}
 use lib.ListN.{length}
 use lib.Seq.{length-take-le}
 use borrow.Author.Needs.{needs}
-use Rattle.deckpack.proofs.Laws.Files.{octets-within}
+use Rattle.streams.proofs.Laws.Reading.{octets-within}
 use Rattle.deckpack.proofs.pack_files.Statement.{statement}
 use Rattle.deckpack.proofs.pack_files.Tie as tie
 
@@ -14,6 +14,12 @@ first-within c = octets-within _ _ _ (c .first .given .1) (c .before .before .be
 
 second-within : (c : tie.After-second) → c .second .given .0 .0 ≤ length (c .before .before .before .load2 .last .1 .0)
 second-within c = octets-within _ _ _ (c .second .given .1) (c .before .before .before .load2 .ensures)
+
+number-place-requires : tie.Need-number-place-requires
+number-place-requires c κs = search needs
+
+add-load : tie.Need-add-load
+add-load c = search needs
 
 slice-aggregate-load : tie.Need-slice-aggregate-load
 slice-aggregate-load c = search needs
@@ -29,6 +35,9 @@ enum-told c = search needs
 
 returns : tie.Need-returns
 returns c = search needs
+
+add-load-2 : tie.Need-add-load-2
+add-load-2 c = search needs
 
 slice-aggregate-load-2 : tie.Need-slice-aggregate-load-2
 slice-aggregate-load-2 c = search needs
@@ -66,6 +75,7 @@ returns-3 c = search needs
 pub pack-files-spec : {M : Type 1} → statement M
 pack-files-spec =
     tie.close
-    (tie.spec slice-aggregate-load load-requires enum-known-first enum-told returns slice-aggregate-load-2
-    load-requires-2 enum-known-second enum-told-2 returns-2 array-share-prefix-certificate slice-aggregate-pack
-    array-share-prefix-issuer slice-aggregate-pack-2 pack-requires returns-3)
+    (tie.spec number-place-requires add-load slice-aggregate-load load-requires enum-known-first enum-told returns
+    add-load-2 slice-aggregate-load-2 load-requires-2 enum-known-second enum-told-2 returns-2
+    array-share-prefix-certificate slice-aggregate-pack array-share-prefix-issuer slice-aggregate-pack-2 pack-requires
+    returns-3)

@@ -3,8 +3,8 @@ use mathlib.Core.Bool.{Bool, true, cond, _&&_}
 use mathlib.Core.List.{List, [], _∷_}
 use Prim.Native.Nat.{ℕ, _+_, _-_, _*_}
 use lib.Dec.{leb}
-use Rattle.deckpack.specs.declared.decimals.Decimal.{Decimal}
-use Rattle.deckpack.specs.declared.decimals.Decimal.the-variants.{Number, Other}
+use Rattle.texts.specs.declared.numerals.Numeral.{Numeral}
+use Rattle.texts.specs.declared.numerals.Numeral.the-variants.{Number, Other}
 
 -- 0 to 9
 abbrev pub isDecimalDigit : ℕ → Bool
@@ -24,18 +24,18 @@ abbrev pub largestNumber : ℕ
 largestNumber = 4294967295
 
 -- a number that a record can have
-abbrev pub upTo : Bool → ℕ → Decimal
+abbrev pub upTo : Bool → ℕ → Numeral
 upTo digits n = cond (digits && leb n largestNumber) (Number n) Other
 
 -- the digits cs written on behind n
-unfoldable pub decimalFrom : ℕ → List ℕ → Decimal
+unfoldable pub decimalFrom : ℕ → List ℕ → Numeral
 decimalFrom n cs = upTo (areDigits cs) (valueFrom n cs)
 
 -- at least one digit and nothing besides
-unfoldable pub decimalOf : List ℕ → Decimal
+unfoldable pub decimalOf : List ℕ → Numeral
 decimalOf [] = Other
 decimalOf (c ∷ cs) = decimalFrom 0 (c ∷ cs)
 
 -- one digit written on
-unfoldable pub appended : ℕ → ℕ → Decimal
+unfoldable pub appended : ℕ → ℕ → Numeral
 appended n c = upTo (isDecimalDigit c) (10 * n + (c - 48))

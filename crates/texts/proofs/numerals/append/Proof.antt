@@ -1,12 +1,12 @@
--- `deckpack::decimals::append` meets its contract. Assumes nothing.
+-- `texts::numerals::append` meets its contract. Assumes nothing.
 use mathlib.Core.Path.{_≡_, sym, _∙_}
 use mathlib.Core.Bool.{true}
 use borrow.Author.Tests.{not-true, not-false}
 use borrow.Author.Needs.{needs}
-use Rattle.deckpack.specs.Decimals.{isDecimalDigit}
-use Rattle.deckpack.proofs.Laws.Decimals.{append-other, append-large, append-digit, digit-from}
-use Rattle.deckpack.proofs.decimals.append.Statement.{statement}
-use Rattle.deckpack.proofs.decimals.append.Tie as tie
+use Rattle.texts.specs.Numerals.{isDecimalDigit}
+use Rattle.texts.proofs.Laws.Numerals.{append-other, append-large, append-digit, digit-from}
+use Rattle.texts.proofs.numerals.append.Statement.{statement}
+use Rattle.texts.proofs.numerals.append.Tie as tie
 
 is-digit-requires : tie.Need-is-digit-requires
 is-digit-requires c κs = search needs

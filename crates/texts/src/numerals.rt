@@ -1,8 +1,8 @@
-// Decimal numbers.
+// What decimal digits say.
 ghost use mathlib.Core.Path.{_≡_};
-ghost use Rattle.deckpack.specs.Decimals.{isDecimalDigit, appended, decimalOf};
+ghost use Rattle.texts.specs.Numerals.{isDecimalDigit, appended, decimalOf};
 
-pub enum Decimal {
+pub enum Numeral {
     Number(u32),
     // no digits, something besides, or a number past four octets
     Other,
@@ -18,35 +18,35 @@ fn is_digit(c: u8) -> bool
 }
 
 // A number with a digit written on.
-fn append(number: u32, c: u8) -> Decimal
+fn append(number: u32, c: u8) -> Numeral
     ensures { λ r. ⌜ r ≡ appended number c ⌝ }
 {
     if !is_digit(c) {
-        return Decimal::Other;
+        return Numeral::Other;
     }
     let next = 10 * (number as u64) + ((c - 48) as u64);
     if next > LARGEST {
-        return Decimal::Other;
+        return Numeral::Other;
     }
-    Decimal::Number(next as u32)
+    Numeral::Number(next as u32)
 }
 
 // The number that the digits of a text say.
-pub fn decimal_of(text: &[u8]) -> Decimal
+pub fn decimal_of(text: &[u8]) -> Numeral
     ensures { λ r. ⌜ r ≡ decimalOf (now (text .entry)) ⌝ }
 {
     if text.len() == 0 {
-        return Decimal::Other;
+        return Numeral::Other;
     }
     let mut number: u32 = 0;
     let mut k: usize = 0;
     while k < text.len() {
         let next = append(number, text[k]);
-        let Decimal::Number(n) = next else {
-            return Decimal::Other;
+        let Numeral::Number(n) = next else {
+            return Numeral::Other;
         };
         number = n;
         k += 1;
     }
-    Decimal::Number(number)
+    Numeral::Number(number)
 }

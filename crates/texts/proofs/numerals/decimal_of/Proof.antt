@@ -1,14 +1,14 @@
--- `deckpack::decimals::decimal_of` meets its contract. The invariant: the text says the number so far, written on by the octets from the kth on.
+-- `texts::numerals::decimal_of` meets its contract. The invariant: the text says the number so far, written on by the octets from the kth on.
 -- Assumes nothing.
 use mathlib.Core.Path.{_≡_, sym, _∙_}
 use Prim.Native.Nat.{_-_, _≤_}
 use native.Mathlib.Omega.{arith}
 use lib.ListN.{length, drop}
 use borrow.Author.Needs.{needs}
-use Rattle.deckpack.specs.Decimals.{largestNumber, decimalFrom, decimalOf}
-use Rattle.deckpack.proofs.Laws.Decimals.{append-taken, decimal-empty, decimal-begins, decimal-next, decimal-stops, decimal-done}
-use Rattle.deckpack.proofs.decimals.decimal_of.Statement.{statement}
-use Rattle.deckpack.proofs.decimals.decimal_of.Tie as tie
+use Rattle.texts.specs.Numerals.{largestNumber, decimalFrom, decimalOf}
+use Rattle.texts.proofs.Laws.Numerals.{append-taken, decimal-empty, decimal-begins, decimal-next, decimal-stops, decimal-done}
+use Rattle.texts.proofs.numerals.decimal_of.Statement.{statement}
+use Rattle.texts.proofs.numerals.decimal_of.Tie as tie
 
 abbrev Inv-loop : tie.InvT-loop
 Inv-loop text number₀ k₀ number k = (number ≤ largestNumber) × (decimalOf text ≡ decimalFrom number (drop k text))

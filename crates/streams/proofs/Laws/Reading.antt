@@ -9,9 +9,9 @@ use native.Mathlib.Nat.{le-refl}
 use native.Mathlib.Omega.{arith}
 use lib.ListN.{length}
 use borrow.Rule.Slice.PartMut.{midOf, putMid, same-len-mid, mid-len}
-use Rattle.deckpack.specs.Files.{Within}
-use Rattle.deckpack.specs.declared.files.Loaded.{Loaded}
-use Rattle.deckpack.specs.declared.files.Loaded.the-variants.{Octets}
+use Rattle.streams.specs.Reading.{Within}
+use Rattle.streams.specs.declared.reading.Loaded.{Loaded}
+use Rattle.streams.specs.declared.reading.Loaded.the-variants.{Octets}
 
 pub octets-within : (r : Loaded) (n space : ℕ) → r ≡ Octets n → Within r space → n ≤ space
 octets-within r n space e w = rw e at w

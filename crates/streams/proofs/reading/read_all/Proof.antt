@@ -1,4 +1,4 @@
--- `deckpack::files::read_all` meets its contract. The measure is the space that is left. The invariant: what was read lies in the space, which keeps
+-- `streams::reading::read_all` meets its contract. The measure is the space that is left. The invariant: what was read lies in the space, which keeps
 -- its length.
 -- Assumes nothing.
 use mathlib.Core.Path.{_≡_, _∙_}
@@ -6,9 +6,9 @@ use Prim.Native.Nat.{_-_, _≤_}
 use native.Mathlib.Omega.{arith}
 use lib.ListN.{length}
 use borrow.Author.Needs.{needs}
-use Rattle.deckpack.proofs.Laws.Files.{octets-within, read-on}
-use Rattle.deckpack.proofs.files.read_all.Statement.{statement}
-use Rattle.deckpack.proofs.files.read_all.Tie as tie
+use Rattle.streams.proofs.Laws.Reading.{octets-within, read-on}
+use Rattle.streams.proofs.reading.read_all.Statement.{statement}
+use Rattle.streams.proofs.reading.read_all.Tie as tie
 
 abbrev Inv-loop : tie.InvT-loop
 Inv-loop file space₀ at₀ space at = (at ≤ length space) × (length space ≡ length space₀)

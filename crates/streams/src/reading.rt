@@ -1,12 +1,11 @@
-// Files that arguments name, and standard output.
-use libc::STDOUT_FILENO;
+// Files that are read to their end.
 ghost use lib.ListN.{length};
-ghost use Rattle.deckpack.specs.Files.{Within};
+ghost use Rattle.streams.specs.Reading.{Within};
 
 pub enum Loaded {
     // so many octets, at the front of the space
     Octets(usize),
-    // it was said why
+    // a read failed
     Unreadable,
 }
 
@@ -21,8 +20,8 @@ fn read_some(file: i32, space: &mut [u8]) -> Loaded
     Loaded::Octets(io::count(got, space))
 }
 
-// Reads to the end of the file or of the space, or until a read fails.
-fn read_all(file: i32, space: &mut [u8]) -> Loaded
+// Reads to the end of the file or of the space, or until a read fails, which is the caller's to say (`os::fail`).
+pub fn read_all(file: i32, space: &mut [u8]) -> Loaded
     ensures { λ r. ⌜ Within r (length (now (space .exit))) ⌝ }
 {
     let mut at: usize = 0;
@@ -56,7 +55,7 @@ fn load_named(name: &[u8], space: &mut [u8]) -> Loaded
     loaded
 }
 
-// Reads the file that argument i names.
+// Reads the file that argument i names. Where it cannot, it says why on standard error.
 pub fn load(i: usize, space: &mut [u8]) -> Loaded
     ensures { λ r. ⌜ Within r (length (now (space .exit))) ⌝ }
 {
@@ -67,11 +66,4 @@ pub fn load(i: usize, space: &mut [u8]) -> Loaded
         return Loaded::Unreadable;
     }
     load_named(&name[..n], space)
-}
-
-// Writes the octets to standard output.
-pub fn write_out(octets: &[u8]) {
-    if !io::write_all(STDOUT_FILENO, octets) {
-        os::fail(b"standard output");
-    }
 }

@@ -1,0 +1,2 @@
+-- Laws of the definitions, which programs cite.
+pub mod Laws
