@@ -3,6 +3,7 @@
 --     laid-out                               a record's octets on the desk, copied to the front of a buffer
 --     event-record, event-none               what stands at a block where a record is found, and where none is
 --     takes-record, takes-none, takes-lost, takes-end     a record taken, by what is found
+--     taken-event                            where a record stands and there is room, what is said of it and where its octets are
 --     one-taking                             S11: any two answers that the contract allows coincide, and so do the buffers
 -- Assumes nothing.
 use mathlib.Core.Path.{_≡_, refl, sym, ap, ap₂, _∙_}
@@ -18,7 +19,7 @@ use Rattle.reader.specs.Runs.{from, firstBlock, run, starts, recordFrom}
 use Rattle.reader.specs.Events.{Event, record-at, lost-at, lossOf}
 use Rattle.reader.specs.Finding.{foundAt}
 use Rattle.reader.specs.Stepping.{eventAt}
-use Rattle.reader.specs.Taking.{inFrontOf, takenOf, bufferAfter, TakenRecord, LaidOut}
+use Rattle.reader.specs.Taking.{inFrontOf, layoutOf, takenOf, bufferAfter, TakenRecord, LaidOut}
 use Rattle.reader.specs.declared.finding.Loss.{Loss}
 use Rattle.reader.specs.declared.taking.Layout.{Layout}
 use Rattle.reader.specs.declared.taking.Taken.{Taken}
@@ -112,6 +113,13 @@ module _ (d : List ℕ) (i : ℕ) (buffer : List ℕ) where
 
   pub takes-end : foundAt d i ≡ Founds.End → TakenRecord d i buffer Takens.NoRecord buffer
   takes-end e = takes-nothing (λ number n f. let z : _≡_ {A = ℕ} 0 1 = cc in omega arith)
+
+  pub taken-event : (number : ℕ) (p : List ℕ) → eventAt d i ≡ record-at i number p → length p ≤ length buffer → (r : Taken) (last : List ℕ)
+      → TakenRecord d i buffer r last → (r ≡ Takens.Record (layoutOf number p)) × (last ≡ p ++ drop (length p) buffer)
+  taken-event number p e room r last t = (
+    t .told ∙ ap (λ (event : Event). takenOf (length buffer) event) e ∙ rw (le-leb _ _ room),
+    t .bytes ∙ ap (λ (event : Event). bufferAfter buffer event) e ∙ front-room p buffer room,
+  )
 
   -- ---- S11
 

@@ -14,7 +14,8 @@ returns c =
     let parts = call .before .before in
     let i = parts .before .before .before in
     let start = start-of _ _ _ _ (i .pre .0) in
-    laid-out _ _ (i .args .number) _ _ (i .args .buffer .now) _ (sym (desk-record _ _ _ _ _ _ _ start (parts .parts-of .ensures) clear-long (call .gather .ensures)))
+    laid-out _ _ (i .args .number) _ _ (i .args .buffer .now) _
+    (sym (desk-record _ _ _ _ _ _ _ start (parts .parts-of .ensures) clear-long (call .gather .ensures)))
     (desk-enough _ _ _ _ _ _ _ start (parts .parts-of .ensures) clear-long (call .gather .ensures))
     (start .least) (i .pre .1) (c .pair .ensures .0) (copy .copy .ensures)
 
