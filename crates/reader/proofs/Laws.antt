@@ -9,4 +9,5 @@ pub mod Stepping
 pub mod Walking
 pub mod Counts
 pub mod Passing
+pub mod Taking
 pub mod Exact

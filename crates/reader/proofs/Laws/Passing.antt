@@ -1,4 +1,5 @@
 -- How far a step goes, by the item that it hands out.
+--     record-long     a record has as many octets as its blocks say
 --     item-blocks     as far as by what is found
 --     item-within     not past the deck's end
 --     item-moves      one block at least, where the deck goes on
@@ -27,7 +28,7 @@ use Rattle.reader.proofs.Laws.Counts.{step}
 
 module _ (d : List ℕ) (i : ℕ) where
   -- a record has as many octets as its blocks say
-  record-long : 512 * i < length d → starts (from d i) ≡ true → length (recordFrom (from d i)) ≡ recordLength (firstBlock (from d i))
+  pub record-long : 512 * i < length d → starts (from d i) ≡ true → length (recordFrom (from d i)) ≡ recordLength (firstBlock (from d i))
   unfolding recordFrom
   record-long h t =
       let n : ℕ = recordLength (firstBlock (from d i)) in
