@@ -3,14 +3,16 @@
 use std::fs::read;
 use std::path::Path;
 
+use comparison::correct::{refusal, shortest, Case};
 use comparison::damage::{damages, filled_up, push_damaged, push_lost_block};
 use comparison::deck::*;
+use comparison::element::{Element, Encoded};
 use comparison::listers::Listers;
 use comparison::random::Random;
 use comparison::readers::MOST_OCTETS;
 use comparison::records::{any_record, largest, tiny};
 use comparison::sample::sample;
-use reference::Loss;
+use reference::{Answer, Loss};
 
 /// Records of every kind and every kind of damage, as much as the program takes.
 fn mixed(random: &mut Random) -> Deck {
@@ -121,6 +123,35 @@ fn positions_of_every_length_are_listed() {
             let end = format!("lost {position} {word}\nrecords {position} blocks {blocks} lost 1\n");
             assert!(listing.ends_with(&end), "{listing}");
         }
+    }
+    listers.finish();
+}
+
+/// An element of which an inner one, behind so many octets, is an INTEGER without contents: refusal 4 at its place.
+fn faulty_behind(octets: usize) -> Encoded {
+    Element::sequence(vec![Element::octet_string(&vec![7; octets]), Element::integer(&[]).refused(4)])
+        .encode()
+}
+
+#[test]
+fn places_of_every_length_are_listed() {
+    let mut listers = Listers::of("refusals at places of 1 to 4 digits");
+    let mut listings = String::new();
+    for octets in [3, 4, 5, 6, 94, 95, 96, 97, 990, 991, 992, 993, 8_181, 8_182] {
+        let faulty = faulty_behind(octets);
+        let good = shortest().element().octets();
+        let [first, second] = [1, 2].map(|side| Answer::Refused(refusal(&faulty, side)));
+        let on_first =
+            Case { profile: 1, certificate: faulty.octets.clone(), issuer: good.clone(), expected: first };
+        let on_second = Case { profile: 3, certificate: good, issuer: faulty.octets, expected: second };
+        let mut deck = Deck::default();
+        deck.push_record(&Record { number: 1, case: on_first });
+        deck.push_record(&Record { number: 2, case: on_second });
+        listings += &listers.hold(&format!("an element behind {octets} octets"), &deck);
+    }
+    for (place, side) in [9, 10, 99, 100, 999, 1_000, 8_190].iter().flat_map(|place| [(place, 1), (place, 2)])
+    {
+        assert!(listings.contains(&format!(" refused 4 side {side} at {place}\n")), "{listings}");
     }
     listers.finish();
 }
