@@ -75,18 +75,14 @@ fn dense_decks_at_the_most_octets() {
     for profile in ALL {
         for records in [1, 4, 7] {
             let deck = deck_of(&vec![densest(*profile); records]);
-            for octets in [MOST_OCTETS - BLOCK, MOST_OCTETS - 1, MOST_OCTETS, MOST_OCTETS + 1] {
-                let full = filled_up(deck.clone(), octets);
-                assert_eq!(full.octets.len(), octets);
-                let what = format!("{records} records in {octets} octets");
-                let listing = listers.hold(&what, &full);
+            for octets in [MOST_OCTETS - BLOCK, MOST_OCTETS - 1, MOST_OCTETS] {
+                let what = format!("{records} records of profile {profile} in {octets} octets");
+                let listing = listers.hold(&what, &filled_up(deck.clone(), octets));
                 let lost = octets.div_ceil(BLOCK) - 17 * records;
-                if octets > MOST_OCTETS {
-                    assert_eq!(listing, "deck too long\n");
-                } else {
-                    assert_eq!(lines_with(&listing, "lost "), lost, "{what}");
-                }
+                assert_eq!(lines_with(&listing, "lost "), lost, "{what}");
             }
+            let listing = listers.hold("65,537 octets", &filled_up(deck, MOST_OCTETS + 1));
+            assert_eq!(listing, "deck too long\n");
         }
     }
     listers.finish();
