@@ -3,19 +3,17 @@
 --     record-octets      the octets of a record
 --     number-small       a record's number has four octets
 -- Assumes nothing.
-use mathlib.Core.Path.{_≡_}
 use mathlib.Core.Logic.{⊎-elim}
 use mathlib.Core.List.{List, [], _∷_, _++_}
 use Prim.Native.Nat.{ℕ, zero, suc, _+_, _*_, _^_, _≤_, _<_}
 use native.Mathlib.Omega.{arith}
 use lib.ListN.{length, take, drop}
 use lib.Seq.{getD-drop}
-use Rattle.octets.specs.Octets.{octetAt, Octets}
-use Rattle.octets.specs.Numbers.{quadAt}
+use Rattle.reader.specs.Runs.{blockAt, from, firstBlock, dataFrom, recordFrom}
+use Rattle.octets.specs.Octets.{Octets}
 use Rattle.blocks.specs.Block.{recordNumber, recordLength, dataOf}
 use Rattle.blocks.specs.Record.{parts}
 use Rattle.blocks.proofs.Laws.Logic.{below-or-not}
-use Rattle.reader.specs.Runs.{blockAt, from, firstBlock, dataFrom, recordFrom}
 use Rattle.reader.proofs.Laws.Places.{from-cons, from-nil, first-is}
 
 none-octets : Octets []
@@ -44,8 +42,8 @@ module _ (d : List ℕ) (o : Octets d) where
   data-octets (suc k) i =
       ⊎-elim
       (λ (h : 512 * i < length d). rw (from-cons d i h)
-        (octets-join (dataOf (blockAt d i)) (dataFrom k (from d (suc i)))
-        (octets-take 502 (drop 8 (blockAt d i)) (octets-drop 8 (blockAt d i) (block-octets i))) (data-octets k (suc i))))
+      (octets-join (dataOf (blockAt d i)) (dataFrom k (from d (suc i)))
+      (octets-take 502 (drop 8 (blockAt d i)) (octets-drop 8 (blockAt d i) (block-octets i))) (data-octets k (suc i))))
       (λ (h : length d ≤ 512 * i). rw (from-nil d i h) none-octets)
       (below-or-not (512 * i) (length d))
 

@@ -18,6 +18,7 @@ use Rattle.reader.specs.Events.{Event, record-at, lost-at, eventIf, read
 use Rattle.reader.specs.Finding.{foundAt, blocksIn}
 use Rattle.reader.specs.Stepping.{lintedRoom, itemOf, roomAfter, itemBlocks, eventAt, itemAt, roomAt}
 use Rattle.reader.specs.Walking.{Handed, handedAt, unlessEnd, walk, positionOf, handedOver, allHandedOver}
+use Rattle.reader.specs.declared.stepping.Item.{Item}
 use Rattle.blocks.specs.Record.{profileIn, certificateOctets, issuerOctets}
 use Rattle.blocks.proofs.Laws.Logic.{below-or-not}
 use Rattle.lint.proofs.Laws.Rooms.{answer-room, room-long, report-room}
@@ -25,7 +26,6 @@ use Rattle.lint.specs.declared.linting.Answer.{Answer}
 use Rattle.reader.proofs.Laws.Places.{from-nil}
 use Rattle.reader.proofs.Laws.Counts.{reads-on}
 use Rattle.reader.proofs.Laws.Passing.{item-blocks, item-moves}
-use Rattle.reader.specs.declared.stepping.Item.{Item}
 use Rattle.reader.specs.declared.stepping.Item.the-variants as Items
 
 -- ---- an event is handed out
