@@ -14,8 +14,8 @@ use reference::Loss;
 
 /// Lines of `decklint` wait in so many octets to be written.
 const WAITING: usize = 393_216;
-/// It writes them once fewer than 327,741 octets are left.
-const WRITTEN_FROM: usize = WAITING - 327_741;
+/// It writes them once fewer than 327,743 octets are left.
+const WRITTEN_FROM: usize = WAITING - 327_743;
 /// What a pipe holds; `WAITING` is six times as much.
 const EDGE: usize = 65_536;
 
