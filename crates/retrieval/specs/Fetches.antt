@@ -26,6 +26,10 @@ pub data Fetches (deck : List ℕ) (number : ℕ) (side : Side) : ℕ → List (
 abbrev pub FetchesAll : List ℕ → ℕ → Side → Type 0
 FetchesAll deck number side = (sides : List (List ℕ)) → Fetches deck number side 0 sides → sides ≡ sidesOf side number deck
 
+-- and there are such fetches, with 16,384 octets of room
+abbrev pub FetchesEnd : List ℕ → ℕ → Side → Type 0
+FetchesEnd deck number side = (out : List ℕ) → 16384 ≤ length out → Fetches deck number side 0 (sidesOf side number deck)
+
 -- each goes forward, not past the deck's end, so they come to an end
 abbrev pub GoesForward : List ℕ → ℕ → Side → Type 0
 GoesForward deck number side =

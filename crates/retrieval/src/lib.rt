@@ -48,22 +48,15 @@ fn put_side(octets: &[u8], n: usize, c: usize, side: Side, next: usize, out: &mu
 }
 
 // The same of the record of that number and length that starts at the block.
-fn fetch_at(
-    deck: &[u8],
-    position: usize,
-    number: usize,
-    n: usize,
-    side: Side,
-    out: &mut [u8],
-) -> Fetched
-    requires { ⌜ foundAt (now deck) position ≡ Found.Record number n ⌝ }
-    ensures { λ r. ⌜ PutOctets (writtenSide side (recordFrom (from (now (deck .entry)) position))) (position + parts n) (now (out .entry)) r (now (out .exit)) ⌝ }
+fn fetch_at(deck: &[u8], at: usize, number: usize, n: usize, side: Side, out: &mut [u8]) -> Fetched
+    requires { ⌜ foundAt (now deck) at ≡ Found.Record number n ⌝ }
+    ensures { λ r. ⌜ PutOctets (writtenSide side (recordFrom (from (now (deck .entry)) at))) (at + parts n) (now (out .entry)) r (now (out .exit)) ⌝ }
 {
     let mut desk = [0u8; LONGEST];
-    let taken = reader::take_record(deck, position, &mut desk);
+    let taken = reader::take_record(deck, at, &mut desk);
     match taken {
         Taken::Record(layout) => {
-            let next = position + blocks::parts_of(n);
+            let next = at + blocks::parts_of(n);
             put_side(&desk, n, layout.certificate, side, next, out)
         }
         Taken::NoRoom => Fetched::NoRoom,

@@ -3,12 +3,13 @@
 --     goes-forward               a fetch goes forward, and not past the deck's end
 --     room-enough                16,384 octets are enough
 --     fetches-all                fetches until nothing is left give that side of every record of the number, in the deck's order
+--     fetches-end                there are such fetches
 --     one-fetch                  S11: any two answers that the contract allows coincide, and so do the buffers
 -- Assumes nothing.
-use mathlib.Core.Path.{_≡_, refl, sym, ap, ap₂, _∙_}
+use mathlib.Core.Path.{_≡_, refl, sym, ap, ap₂, subst, _∙_}
 use mathlib.Core.Bool.{Bool, true, false, cond}
 use mathlib.Core.Logic.{_≢_, ⊎-elim}
-use mathlib.Core.List.{List, [], _∷_}
+use mathlib.Core.List.{List, [], _∷_, _++_}
 use Prim.Native.Nat.{ℕ, zero, suc, _+_, _-_, _*_, _≤_, _<_}
 use native.Mathlib.Omega.{arith}
 use lib.Dec.{eqb, leb}
@@ -16,7 +17,7 @@ use lib.ListN.{length, take, drop, length-take, length-drop}
 use lib.Seq.{take-at}
 use borrow.Author.Tests.{leb-true, le-leb, eqb-true, eqb-false}
 use Rattle.retrieval.specs.Fetching.{writtenSide, numbered, sidesIn, fetchedOf, outAfter, PutOctets, FetchedFirst}
-use Rattle.retrieval.specs.Fetches.{FetchedFrom, Fetches, nothing, another, FetchesAll, GoesForward, RoomEnough}
+use Rattle.retrieval.specs.Fetches.{FetchedFrom, Fetches, nothing, another, FetchesAll, FetchesEnd, GoesForward, RoomEnough}
 use Rattle.retrieval.specs.declared.Fetched.{Fetched}
 use Rattle.blocks.specs.Record.{parts, certificateLength, certificateOctets, issuerOctets}
 use Rattle.blocks.proofs.Laws.Logic.{true-or-false}
@@ -103,6 +104,12 @@ module _ (deck : List ℕ) (number : ℕ) (side : Side) where
   abbrev at : ℕ → List ℕ
   at j = recordFrom (from deck j)
 
+  side-fits : (j m : ℕ) → foundAt deck j ≡ Founds.Record number m → length (writtenSide side (at j)) ≤ 16384
+  side-fits j m f =
+      let start : Start deck j number m = start-of deck j number m f in
+      let size : length (at j) ≡ m = start-long deck j number m start in
+      omega (arith, side-short side (at j) (omega (arith, start-cut deck j number m start)), start .most)
+
   pub goes-forward : GoesForward deck number side
   goes-forward position n next out last r e h = go (first-from deck number position)
     where
@@ -125,11 +132,7 @@ module _ (deck : List ℕ) (number : ℕ) (side : Side) where
           let g : r ≡ Fetcheds.Nothing = of-none _ side out r last h f in
           let z : _≡_ {A = ℕ} 0 1 = cc in omega arith
       go (stands j m l f g) =
-          let start : Start deck j number m = start-of deck j number m f in
-          let size : length (at j) ≡ m = start-long deck j number m start in
-          let short : length (writtenSide side (at j)) ≤ length (at j) - 3 =
-          side-short side (at j) (omega (arith, start-cut deck j number m start)) in
-          let fit : length (writtenSide side (at j)) ≤ length out = omega (arith, start .most) in
+          let fit : length (writtenSide side (at j)) ≤ length out = omega (arith, side-fits j m f) in
           let told : r ≡ Fetcheds.Octets (length (writtenSide side (at j))) (j + parts (length (at j))) =
           of-first _ side out r last h j number (at j) _ g .told ∙ rw (le-leb _ _ fit) in
           let z : _≡_ {A = ℕ} 0 1 = cc in omega arith
@@ -166,6 +169,33 @@ module _ (deck : List ℕ) (number : ℕ) (side : Side) where
   pub fetches-all : FetchesAll deck number side
   unfolding events
   fetches-all sides h = all-left 0 sides h
+
+  -- with room enough a fetch gives the next record, and the others are left
+  abbrev left : ℕ → List (List ℕ)
+  left i = sidesIn side (numbered number (eventsFrom deck i))
+
+  module _ (out : List ℕ) (room : 16384 ≤ length out) where
+    fetch-first : (i : ℕ) → ((k : ℕ) → i < k → 512 * k ≤ length deck → Fetches deck number side k (left k)) → First deck number i
+        → Fetches deck number side i (left i)
+    fetch-first i later (none f) = rw f (nothing {position = i} out out (rw f (record { told = refl; bytes = refl })))
+    fetch-first i later (stands j m l f g) =
+        let s : List ℕ = writtenSide side (at j) in
+        let start : Start deck j number m = start-of deck j number m f in
+        let fit : length s ≤ length out = omega (arith, side-fits j m f) in
+        let size : length (at j) ≡ m = start-long deck j number m start in
+        let h : FetchedFrom deck i number side out (Fetcheds.Octets (length s) (j + parts m)) (s ++ drop (length s) out) =
+        rw g (record { told = rw (size, le-leb _ _ fit); bytes = sym (front-room s out fit) }) in
+        subst (λ (sides : List (List ℕ)). Fetches deck number side i sides)
+        (ap (λ (x : List ℕ). x ∷ left (j + parts m)) (take-at s (drop (length s) out) (length s) refl) ∙ sym (ap (λ (es : List Event). sidesIn side es) g))
+        (another (length s) (j + parts m) out (s ++ drop (length s) out) h (later (j + parts m) (omega (arith, start .least)) (start .whole)))
+
+    fetch-left : (octets i : ℕ) → length deck ≤ 512 * i + octets → Fetches deck number side i (left i)
+    fetch-left zero i h = fetch-first i (λ k forward inside. absurd (omega arith)) (first-from deck number i)
+    fetch-left (suc octets) i h = fetch-first i (λ k forward inside. fetch-left octets k (omega arith)) (first-from deck number i)
+
+  pub fetches-end : FetchesEnd deck number side
+  unfolding events
+  fetches-end out room = fetch-left out room (length deck) 0 (omega arith)
 
   -- ---- S11
 

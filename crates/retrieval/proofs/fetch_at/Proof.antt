@@ -15,7 +15,7 @@ long = length-replicate {A = ℕ} 16387 0
 add-next : tie.Need-add-next
 add-next c =
     let i = c .before .before .before .before .before .before .before .before .before in
-    omega (arith, c .parts-of .ensures, start-of (i .args .deck .now) (i .args .position) _ _ (i .pre) .whole)
+    omega (arith, c .parts-of .ensures, start-of (i .args .deck .now) (i .args .at) _ _ (i .pre) .whole)
 
 put-side-requires : tie.Need-put-side-requires
 put-side-requires c κs =
