@@ -32,14 +32,14 @@ takenOf room (record-at position number p) = cond (leb (length p) room) (Record 
 takenOf room (lost-at position loss) = NoRecord
 
 -- the buffer then
-abbrev pub bufferAfter : List ℕ → Event → List ℕ
-bufferAfter buffer (record-at position number p) = inFrontOf p buffer
-bufferAfter buffer (lost-at position loss) = buffer
+abbrev pub bufferTaken : List ℕ → Event → List ℕ
+bufferTaken buffer (record-at position number p) = inFrontOf p buffer
+bufferTaken buffer (lost-at position loss) = buffer
 
 -- the whole of it
 pub record TakenRecord (deck : List ℕ) (position : ℕ) (buffer : List ℕ) (r : Taken) (last : List ℕ) : Type 0 where
   pub told : r ≡ takenOf (length buffer) (eventAt deck position)
-  pub bytes : last ≡ bufferAfter buffer (eventAt deck position)
+  pub bytes : last ≡ bufferTaken buffer (eventAt deck position)
 
 -- the same of record `number` with octets p, where there is room
 pub record LaidOut (number : ℕ) (p buffer : List ℕ) (r : Layout) (last : List ℕ) : Type 0 where

@@ -1,5 +1,6 @@
 -- What the reader's step answers.
 --     cut-on-desk                          what the desk says of the certificate's length is what the record says
+--     on-certificate, on-issuer            where the parts of a record at the front of the desk are
 --     desk-linted                          the linter's answer to the parts of a record on the desk is its answer to the record
 --     clear-long                           how long the desk is
 --     desk-record, desk-cut, desk-enough   the data of a record that starts at a block, gathered on the desk
@@ -55,14 +56,14 @@ module _ (desk : List ℕ) (n cut : ℕ) (e : cut ≡ 3 + pairAt desk 1) (h : cu
   on-cut : certificateLength p ≡ pairAt desk 1
   on-cut = cut-on-desk desk n (omega arith)
 
-  on-certificate : certificateOctets p ≡ take (cut - 3) (drop 3 desk)
+  pub on-certificate : certificateOctets p ≡ take (cut - 3) (drop 3 desk)
   unfolding certificateOctets
   on-certificate =
       let m : certificateLength p ≡ cut - 3 = on-cut ∙ omega arith in
       ap₂ (λ (i : ℕ) (l : List ℕ). take i l) m (drop-take 3 n desk (omega arith) (omega arith))
       ∙ take-take (cut - 3) (n - 3) (drop 3 desk) (omega arith)
 
-  on-issuer : issuerOctets p ≡ take (n - cut) (drop cut desk)
+  pub on-issuer : issuerOctets p ≡ take (n - cut) (drop cut desk)
   unfolding issuerOctets
   on-issuer =
       let m : 3 + certificateLength p ≡ cut = omega (arith, on-cut) in
