@@ -1,8 +1,8 @@
 // Lines of words and numbers. A line is put together first and written at once.
 use lint::Answer;
-use lint::Refusal;
 use reader::Loss;
 use reader::Record;
+use refusals::Values;
 use texts::field;
 use texts::word;
 use writer::Placing;
@@ -10,27 +10,15 @@ use writer::Placing;
 // So many octets hold every line.
 const LINE: usize = 80;
 
-// Puts a refusal behind the first n octets of a line, as far as the line goes, and answers how many there are then.
-fn put_refusal(line: &mut [u8], n: usize, r: Refusal) -> usize {
-    let a = field(line, n, b"refused ", lint::refusal_number(r));
-    let b = field(line, a, b" side ", lint::side_of(r));
-    field(line, b, b" at ", lint::place_of(r))
-}
-
-// The same with the linter's answer.
-fn put_answer(line: &mut [u8], n: usize, answer: Answer) -> usize {
-    match answer {
-        Answer::Report(count) => field(line, n, b"findings ", count),
-        Answer::Refused(r) => put_refusal(line, n, r),
+// Puts an answer's values behind the first n octets of a line, as far as the line goes, and answers how many there are
+// then. The text says what is counted.
+fn put_values(line: &mut [u8], n: usize, text: &[u8], v: Values) -> usize {
+    if v.number == 0 {
+        return field(line, n, text, v.count);
     }
-}
-
-// The same with the writer's.
-fn put_written(line: &mut [u8], answer: Placing) -> usize {
-    match answer {
-        Placing::Blocks(count) => field(line, 0, b"blocks ", count),
-        Placing::Refused(r) => put_refusal(line, 0, r),
-    }
+    let a = field(line, n, b"refused ", v.number);
+    let b = field(line, a, b" side ", v.side);
+    field(line, b, b" at ", v.place)
 }
 
 // Ends a line after its first n octets and writes it.
@@ -50,13 +38,13 @@ pub fn say(text: &[u8], number: usize) {
 
 pub fn say_answer(answer: Answer) {
     let mut line = [0u8; LINE];
-    let a = put_answer(&mut line, 0, answer);
+    let a = put_values(&mut line, 0, b"findings ", lint::answer_values(answer));
     end(&mut line, a);
 }
 
 pub fn say_written(answer: Placing) {
     let mut line = [0u8; LINE];
-    let a = put_written(&mut line, answer);
+    let a = put_values(&mut line, 0, b"blocks ", writer::placing_values(answer));
     end(&mut line, a);
 }
 
@@ -67,7 +55,7 @@ pub fn say_record(record: Record) {
     let c = field(&mut line, b, b" length ", record.length);
     let d = word(&mut line, c, b" ");
     let answer = record.answer;
-    let e = put_answer(&mut line, d, answer);
+    let e = put_values(&mut line, d, b"findings ", lint::answer_values(answer));
     end(&mut line, e);
 }
 

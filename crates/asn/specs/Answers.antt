@@ -8,6 +8,7 @@ use Rattle.asn.specs.Grammar.Slots.{done, one}
 use Rattle.asn.specs.Module.{certificate, valueOf}
 use Rattle.asn.specs.declared.fitting.Verdict.{Verdict}
 use Rattle.asn.specs.declared.fitting.Verdict.the-variants.{Stranger, Fits, Wrong}
+use Rattle.refusals.specs.Table.{notCertificate}
 use Rattle.der.specs.Header.{childrenOf}
 use Rattle.der.specs.Soundness.{stretchSoundness, isSound}
 
@@ -21,9 +22,9 @@ certificateVerdict s = onlyElement certificate s 0 (length s)
 
 -- The paper's number and place for each case of a verdict on a certificate. (0 is no refusal; a list is never a stranger.)
 abbrev pub verdictNumber : Verdict → ℕ
-verdictNumber Stranger = 6
+verdictNumber Stranger = notCertificate
 verdictNumber Fits = 0
-verdictNumber (Wrong p) = 6
+verdictNumber (Wrong p) = notCertificate
 
 abbrev pub verdictPlace : Verdict → ℕ
 verdictPlace Stranger = 0

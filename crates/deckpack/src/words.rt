@@ -1,6 +1,7 @@
 // What is said on standard error.
 use libc::STDERR_FILENO;
-use lint::Refusal;
+use lint::Inadmissible;
+use writer::NotWritten;
 
 fn say(text: &[u8]) {
     io::write_all(STDERR_FILENO, text);
@@ -10,25 +11,31 @@ pub fn say_usage() {
     say(b"usage: deckpack [DECK] NUMBER PROFILE CERTIFICATE ISSUER\n");
 }
 
-// What a refusal says (docs/RULES.md). The writer gives 1, 2, 3 and 8; the room is never too little.
-fn say_reason(r: Refusal) {
+// What a refusal says (docs/RULES.md).
+fn say_reason(r: NotWritten) {
     match r {
-        Refusal::CertificateLength => say(b"the certificate has no octets, or more than 8,192\n"),
-        Refusal::IssuerLength => say(
-            b"the issuer's certificate has no octets, or more than 8,192\n",
-        ),
-        Refusal::UnknownProfile => say(b"the profile is not 1, 2 or 3\n"),
-        Refusal::Unsound(_, _) => say(b"the octets are not sound DER\n"),
-        Refusal::Unordered(_, _) => say(b"a SET is out of order\n"),
-        Refusal::NotCertificate(_, _) => say(b"the octets are not a certificate\n"),
-        Refusal::NoRoom => say(b"there is too little room\n"),
-        Refusal::NoNumber => say(b"the record number is 0\n"),
+        NotWritten::Inadmissible(i) => say_inadmissible(i),
+        NotWritten::NoNumber => say(b"the record number is 0\n"),
+        NotWritten::NoRoom => say(b"there is too little room\n"),
     }
 }
 
-pub fn say_refusal(r: Refusal) {
+fn say_inadmissible(r: Inadmissible) {
+    match r {
+        Inadmissible::CertificateLength => say(
+            b"the certificate has no octets, or more than 8,192\n",
+        ),
+        Inadmissible::IssuerLength => say(
+            b"the issuer's certificate has no octets, or more than 8,192\n",
+        ),
+        Inadmissible::UnknownProfile => say(b"the profile is not 1, 2 or 3\n"),
+    }
+}
+
+pub fn say_refusal(r: NotWritten) {
+    let v = writer::not_written_values(r);
     say(b"refused ");
-    io::print_decimal(STDERR_FILENO, lint::refusal_number(r) as u64);
+    io::print_decimal(STDERR_FILENO, v.number as u64);
     say(b": ");
     say_reason(r);
 }

@@ -4,6 +4,7 @@ use mathlib.Core.Bool.{Bool, true, false, cond, not, _&&_, _||_}
 use Prim.Native.Nat.{ℕ}
 use lib.ListN.{length}
 use lib.Dec.{eqb}
+use Rattle.refusals.specs.Table.{notSoundDer, setOutOfOrder}
 use Rattle.der.specs.Header.{headOf, childrenOf}
 use Rattle.der.specs.Contents.{elementOk}
 use Rattle.der.specs.Order.{ascending, octetsOf}
@@ -54,8 +55,8 @@ derSoundness s = stretchSoundness s 0 (length s)
 -- The paper's number and place for each case. (0 is no refusal.)
 abbrev pub soundnessNumber : Soundness → ℕ
 soundnessNumber Sound = 0
-soundnessNumber (Unsound p) = 4
-soundnessNumber (Unordered p) = 5
+soundnessNumber (Unsound p) = notSoundDer
+soundnessNumber (Unordered p) = setOutOfOrder
 
 abbrev pub soundnessPlace : Soundness → ℕ
 soundnessPlace Sound = 0

@@ -24,14 +24,14 @@ use Rattle.rules_values.specs.Usage.{allowedUsage}
 use Rattle.usages.specs.Usage.{usageOf, otherBits}
 use Rattle.policies.specs.Policies.{isBelow, federalArc}
 use Rattle.asn.specs.Answers.{certificateVerdict, verdictNumber, verdictPlace, valueOk}
-use Rattle.lint.specs.declared.refusals.Side.the-variants.{Certificate}
-use Rattle.lint.specs.declared.refusals.Refusal.the-variants.{NotCertificate}
-use Rattle.lint.specs.declared.linting.Answer.the-variants as Lint
+use Rattle.lint.specs.declared.reasons.Side.the-variants.{Certificate}
+use Rattle.lint.specs.declared.reasons.Refusal.the-variants.{NotCertificate}
 use Rattle.blocks.specs.Block.{blockOf}
 use Rattle.writer.specs.Cutting.{zeroFilled, blocksOf, endToEnd}
 use Rattle.reader.specs.Runs.{blocks}
 use Rattle.reader.specs.Walking.{Handed, walk}
 use Rattle.reader.specs.declared.finding.Loss.the-variants.{Short, Unsound}
+use Rattle.lint.specs.declared.linting.Answer.the-variants as Lint
 use Rattle.reader.specs.declared.stepping.Item.the-variants as Items
 
 pub data Query : Type 0 where

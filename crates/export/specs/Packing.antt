@@ -1,28 +1,23 @@
 -- An answer as one number of 64 bits, for callers in other languages: a count as it is, a refusal with the paper's number, side and place.
-use mathlib.Core.Bool.{Bool, true, false}
-use mathlib.Core.Path.{_≡_}
-use Prim.Native.Nat.{ℕ, _+_, _*_, _^_, _/_, _%_}
-use lib.Dec.{leb}
-use Rattle.lint.specs.Refusals.{refusalNumber, sideOf, placeOf}
-use Rattle.lint.specs.declared.refusals.Refusal.{Refusal}
-use Rattle.lint.specs.declared.linting.Answer as Linting
-use Rattle.lint.specs.declared.linting.Answer.the-variants as Linted
-use Rattle.writer.specs.declared.writing.Placing as Writing
-use Rattle.writer.specs.declared.writing.Placing.the-variants as Written
+use mathlib.Core.Bool.{Bool, cond}
+use Prim.Native.Nat.{ℕ, _+_, _*_, _^_, _/_, _%_, _<_}
+use lib.Dec.{eqb, leb}
+use Rattle.refusals.specs.Table.{refused, unrefused}
+use Rattle.refusals.specs.declared.table.Values.{Values}
 
 -- bit 63, and below it number, side and place in sixteen bits each
-unfoldable pub packedRefusal : Refusal → ℕ
-packedRefusal r = 2 ^ 63 + refusalNumber r * 2 ^ 32 + sideOf r * 2 ^ 16 + placeOf r
+unfoldable pub packedRefusal : ℕ → ℕ → ℕ → ℕ
+packedRefusal number side place = 2 ^ 63 + number * 2 ^ 32 + side * 2 ^ 16 + place
 
--- the number of findings
-abbrev pub packedReport : Linting.Answer → ℕ
-packedReport (Linted.Report count) = count
-packedReport (Linted.Refused r) = packedRefusal r
+-- number 0 is no refusal
+abbrev pub packedValues : Values → ℕ
+packedValues v = cond (eqb (v .number) 0) (v .count) (packedRefusal (v .number) (v .side) (v .place))
 
--- the number of blocks
-abbrev pub packedBlocks : Writing.Placing → ℕ
-packedBlocks (Written.Blocks count) = count
-packedBlocks (Written.Refused r) = packedRefusal r
+-- the numbers have room
+pub record Packable (v : Values) : Type 0 where
+  pub number : v .number < 65536
+  pub side : v .side < 65536
+  pub place : v .place < 65536
 
 -- ---- as a caller takes it apart (include/dlozamife.h)
 
@@ -38,22 +33,5 @@ sideIn answer = answer / 2 ^ 16 % 2 ^ 16
 abbrev pub placeIn : ℕ → ℕ
 placeIn answer = answer % 2 ^ 16
 
--- what is read of an answer is a refusal's number, side and place
-pub record ReadsRefusal (r : Refusal) (answer : ℕ) : Type 0 where
-  pub refused : isRefused answer ≡ true
-  pub number : numberIn answer ≡ refusalNumber r
-  pub side : sideIn answer ≡ sideOf r
-  pub place : placeIn answer ≡ placeOf r
-
--- it is a count
-pub record ReadsCount (count answer : ℕ) : Type 0 where
-  pub passed : isRefused answer ≡ false
-  pub counted : answer ≡ count
-
-abbrev pub ReadsReport : Linting.Answer → ℕ → Type 0
-ReadsReport (Linted.Report count) answer = ReadsCount count answer
-ReadsReport (Linted.Refused r) answer = ReadsRefusal r answer
-
-abbrev pub ReadsBlocks : Writing.Placing → ℕ → Type 0
-ReadsBlocks (Written.Blocks count) answer = ReadsCount count answer
-ReadsBlocks (Written.Refused r) answer = ReadsRefusal r answer
+abbrev pub valuesIn : ℕ → Values
+valuesIn answer = cond (isRefused answer) (refused (numberIn answer) (sideIn answer) (placeIn answer)) (unrefused answer)

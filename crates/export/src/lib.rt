@@ -1,12 +1,12 @@
 // The linter and the deck's writer for programs in C and Rust: include/dlozamife.h has the declarations. An answer is one
 // number (specs/Packing.antt).
-use lint::Refusal;
+use refusals::Values;
 ghost use mathlib.Core.Path.{_≡_};
-ghost use Prim.Native.Nat.{_<_};
-ghost use Rattle.lint.specs.Refusals.{placeOf};
-ghost use Rattle.lint.specs.Answers.{answerOf, roomOf};
-ghost use Rattle.writer.specs.Answers.{writeAnswer, writeRoom};
-ghost use Rattle.export.specs.Packing.{packedRefusal, packedReport, packedBlocks};
+ghost use Rattle.lint.specs.Values.{lintValues};
+ghost use Rattle.lint.specs.Answers.{roomOf};
+ghost use Rattle.writer.specs.Values.{writeValues};
+ghost use Rattle.writer.specs.Answers.{writeRoom};
+ghost use Rattle.export.specs.Packing.{packedValues, Packable};
 
 // 2^63: a count is below it.
 const REFUSED: u64 = 9223372036854775808;
@@ -16,13 +16,16 @@ const NUMBER: u64 = 4294967296;
 
 const SIDE: u64 = 65536;
 
-fn packed(r: Refusal) -> u64
-    requires { ⌜ placeOf r < 65536 ⌝ }
-    ensures { λ n. ⌜ n ≡ packedRefusal r ⌝ }
+fn packed(v: Values) -> u64
+    requires { ⌜ Packable v ⌝ }
+    ensures { λ n. ⌜ n ≡ packedValues v ⌝ }
 {
-    let number = lint::refusal_number(r) as u64;
-    let side = lint::side_of(r) as u64;
-    let place = lint::place_of(r) as u64;
+    if v.number == 0 {
+        return v.count as u64;
+    }
+    let number = v.number as u64;
+    let side = v.side as u64;
+    let place = v.place as u64;
     REFUSED + number * NUMBER + side * SIDE + place
 }
 
@@ -34,14 +37,11 @@ pub extern "C" fn dlozamife_lint(
     profile: u8,
     room: &mut [u8],
 ) -> u64
-    ensures { λ r. ⌜ r ≡ packedReport (answerOf (now (certificate .entry)) (now (issuer .entry)) profile (now (room .entry))) ⌝ }
+    ensures { λ r. ⌜ r ≡ packedValues (lintValues (now (certificate .entry)) (now (issuer .entry)) profile (now (room .entry))) ⌝ }
     ensures { λ _. ⌜ now (room .exit) ≡ roomOf (now (certificate .entry)) (now (issuer .entry)) profile (now (room .entry)) ⌝ }
 {
     let answer = lint::lint(certificate, issuer, profile, room);
-    match answer {
-        lint::Answer::Report(count) => count as u64,
-        lint::Answer::Refused(r) => packed(r),
-    }
+    packed(lint::answer_values(answer))
 }
 
 // Writes a record's blocks.
@@ -53,12 +53,9 @@ pub extern "C" fn dlozamife_write_record(
     issuer: &[u8],
     room: &mut [u8],
 ) -> u64
-    ensures { λ r. ⌜ r ≡ packedBlocks (writeAnswer number profile (now (certificate .entry)) (now (issuer .entry)) (now (room .entry))) ⌝ }
+    ensures { λ r. ⌜ r ≡ packedValues (writeValues number profile (now (certificate .entry)) (now (issuer .entry)) (now (room .entry))) ⌝ }
     ensures { λ _. ⌜ now (room .exit) ≡ writeRoom number profile (now (certificate .entry)) (now (issuer .entry)) (now (room .entry)) ⌝ }
 {
     let answer = writer::write_record(number, profile, certificate, issuer, room);
-    match answer {
-        writer::Placing::Blocks(count) => count as u64,
-        writer::Placing::Refused(r) => packed(r),
-    }
+    packed(writer::placing_values(answer))
 }

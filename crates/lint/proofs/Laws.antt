@@ -1,5 +1,6 @@
 -- Laws of the definitions, by file.
 pub mod Answers
+pub mod Values
 pub mod Accepted
 pub mod Order
 pub mod Statements

@@ -4,16 +4,18 @@ use mathlib.Core.List.{List, []}
 use mathlib.Core.Path.{_≡_}
 use Prim.Native.Nat.{ℕ, _*_}
 use lib.ListN.{length, take}
+use Rattle.lint.specs.Refusals.{answerValues}
+use Rattle.lint.specs.Judging.{judgementOf}
+use Rattle.lint.specs.Values.{lintValues}
+use Rattle.lint.specs.declared.judging.Judgement.{Judgement}
+use Rattle.lint.specs.declared.reasons.Refusal.the-variants.{NoRoom}
+use Rattle.lint.specs.declared.linting.Answer.{Answer}
+use Rattle.lint.specs.declared.linting.Answer.the-variants.{Report, Refused}
 use Rattle.report.specs.Entries.{width}
 use Rattle.report.specs.Answers.{enoughRoom, filled}
 use Rattle.report.specs.declared.sink.Entry.{Entry}
 use Rattle.rules.specs.Rules.{findings}
-use Rattle.lint.specs.Judging.{judgementOf}
-use Rattle.lint.specs.declared.judging.Judgement.{Judgement}
 use Rattle.lint.specs.declared.judging.Judgement.the-variants as Judgements
-use Rattle.lint.specs.declared.refusals.Refusal.the-variants.{NoRoom}
-use Rattle.lint.specs.declared.linting.Answer.{Answer}
-use Rattle.lint.specs.declared.linting.Answer.the-variants.{Report, Refused}
 
 -- 7 "too little room", else the number of findings
 unfoldable pub answerTo : List Entry → List ℕ → Answer
@@ -42,6 +44,7 @@ roomOf certificate issuer profile room = roomBy (judgementOf certificate issuer 
 -- the whole of it
 pub record Answered (certificate issuer : List ℕ) (profile : ℕ) (room : List ℕ) (r : Answer) (last : List ℕ) : Type 0 where
   pub told : r ≡ answerOf certificate issuer profile room
+  pub values : answerValues r ≡ lintValues certificate issuer profile room
   pub bytes : last ≡ roomOf certificate issuer profile room
 
 -- the report that an answer leaves in the room: the octets of the findings that it counts

@@ -5,6 +5,12 @@ use mathlib.Core.List.{List}
 use Prim.Native.Nat.{ℕ}
 use lib.Dec.{leb}
 use lib.ListN.{length}
+use Rattle.lint.specs.declared.reasons.Side.{Side}
+use Rattle.lint.specs.declared.reasons.Side.the-variants.{Certificate, Issuer}
+use Rattle.lint.specs.declared.reasons.Inadmissible.the-variants.{CertificateLength, IssuerLength, UnknownProfile}
+use Rattle.lint.specs.declared.judging.Admission.{Admission}
+use Rattle.lint.specs.declared.judging.Judgement.{Judgement}
+use Rattle.lint.specs.declared.judging.Judgement.the-variants.{Accepted, Refused}
 use Rattle.der.specs.Soundness.{derSoundness}
 use Rattle.der.specs.declared.walk.Soundness.{Soundness}
 use Rattle.der.specs.declared.walk.Soundness.the-variants.{Sound, Unsound, Unordered}
@@ -15,12 +21,8 @@ use Rattle.profiles.specs.Fields.{askedOf}
 use Rattle.profiles.specs.declared.fields.Profile.{Profile}
 use Rattle.profiles.specs.declared.fields.Asked.{Asked}
 use Rattle.profiles.specs.declared.fields.Asked.the-variants.{For, Unknown}
-use Rattle.lint.specs.declared.refusals.Side.{Side}
-use Rattle.lint.specs.declared.refusals.Side.the-variants.{Certificate, Issuer}
-use Rattle.lint.specs.declared.refusals.Refusal as Refusal
-use Rattle.lint.specs.declared.refusals.Refusal.the-variants as Refusals
-use Rattle.lint.specs.declared.judging.Judgement.{Judgement}
-use Rattle.lint.specs.declared.judging.Judgement.the-variants.{Accepted, Refused}
+use Rattle.lint.specs.declared.reasons.Refusal.the-variants as Refusals
+use Rattle.lint.specs.declared.judging.Admission.the-variants as Admissions
 
 -- refusals 1 and 2 are for "0 or over 8,192 bytes"
 abbrev pub sideLengthOk : ℕ → Bool
@@ -50,21 +52,21 @@ unfoldable pub bothSides : Profile → List ℕ → List ℕ → Judgement
 bothSides p certificate issuer = orElse (sideJudgement p Certificate certificate) (sideJudgement p Issuer issuer)
 
 -- 3 "profile not 1 to 3"
-abbrev pub forProfile : Asked → Judgement
-forProfile Unknown = Refused Refusals.UnknownProfile
-forProfile (For p) = Accepted p
+abbrev pub forProfile : Asked → Admission
+forProfile Unknown = Admissions.Refused UnknownProfile
+forProfile (For p) = Admissions.Admitted p
 
 -- 1 "certificate has 0 or over 8,192 bytes", 2 "issuer has 0 or over 8,192 bytes", then 3: of sides of so many octets. The writer gives these too.
-unfoldable pub admissionOf : ℕ → ℕ → ℕ → Judgement
+unfoldable pub admissionOf : ℕ → ℕ → ℕ → Admission
 admissionOf certificate issuer profile =
     cond (sideLengthOk certificate)
-    (cond (sideLengthOk issuer) (forProfile (askedOf profile)) (Refused Refusals.IssuerLength))
-    (Refused Refusals.CertificateLength)
+    (cond (sideLengthOk issuer) (forProfile (askedOf profile)) (Admissions.Refused IssuerLength))
+    (Admissions.Refused CertificateLength)
 
 -- then 4 to 6
-abbrev pub onceAdmitted : Judgement → List ℕ → List ℕ → Judgement
-onceAdmitted (Refused r) certificate issuer = Refused r
-onceAdmitted (Accepted p) certificate issuer = bothSides p certificate issuer
+abbrev pub onceAdmitted : Admission → List ℕ → List ℕ → Judgement
+onceAdmitted (Admissions.Refused r) certificate issuer = Refused (Refusals.Inadmissible r)
+onceAdmitted (Admissions.Admitted p) certificate issuer = bothSides p certificate issuer
 
 unfoldable pub judgementOf : List ℕ → List ℕ → ℕ → Judgement
 judgementOf certificate issuer profile = onceAdmitted (admissionOf (length certificate) (length issuer) profile) certificate issuer

@@ -1,44 +1,33 @@
--- "Refusals and their order" (document 01): the paper's number, side and place for each case.
+-- The paper's values for each case of the linter's answers (document 01, "Refusals and their order").
 use Prim.Native.Nat.{ℕ}
-use Rattle.lint.specs.declared.refusals.Side.{Side}
-use Rattle.lint.specs.declared.refusals.Side.the-variants.{Certificate, Issuer}
-use Rattle.lint.specs.declared.refusals.Refusal.{Refusal}
-use Rattle.lint.specs.declared.refusals.Refusal.the-variants.{CertificateLength, IssuerLength, UnknownProfile, Unsound, Unordered}
-use Rattle.lint.specs.declared.refusals.Refusal.the-variants.{NotCertificate, NoRoom, NoNumber}
+use Rattle.lint.specs.declared.reasons.Side.{Side}
+use Rattle.lint.specs.declared.reasons.Side.the-variants.{Certificate, Issuer}
+use Rattle.lint.specs.declared.reasons.Inadmissible.the-variants.{CertificateLength, IssuerLength, UnknownProfile}
+use Rattle.lint.specs.declared.reasons.Refusal.{Refusal}
+use Rattle.lint.specs.declared.reasons.Refusal.the-variants.{Inadmissible, Unsound, Unordered, NotCertificate, NoRoom}
+use Rattle.lint.specs.declared.linting.Answer.{Answer}
+use Rattle.lint.specs.declared.linting.Answer.the-variants.{Report, Refused}
+use Rattle.refusals.specs.Table.{wrongCertificateLength, wrongIssuerLength, unknownProfile, notSoundDer, setOutOfOrder, notCertificate, tooLittleRoom, onNeither, onCertificate, onIssuer, refused, unrefused}
+use Rattle.refusals.specs.declared.table.Values.{Values}
+use Rattle.lint.specs.declared.reasons.Inadmissible as Reason
 
--- "No."
-abbrev pub refusalNumber : Refusal → ℕ
-refusalNumber CertificateLength = 1
-refusalNumber IssuerLength = 2
-refusalNumber UnknownProfile = 3
-refusalNumber (Unsound side place) = 4
-refusalNumber (Unordered side place) = 5
-refusalNumber (NotCertificate side place) = 6
-refusalNumber NoRoom = 7
-refusalNumber NoNumber = 8
-
--- "side (1 certificate, 2 issuer, 0 neither)"
 abbrev pub sideNumber : Side → ℕ
-sideNumber Certificate = 1
-sideNumber Issuer = 2
+sideNumber Certificate = onCertificate
+sideNumber Issuer = onIssuer
 
-abbrev pub sideOf : Refusal → ℕ
-sideOf CertificateLength = 1
-sideOf IssuerLength = 2
-sideOf UnknownProfile = 0
-sideOf (Unsound side place) = sideNumber side
-sideOf (Unordered side place) = sideNumber side
-sideOf (NotCertificate side place) = sideNumber side
-sideOf NoRoom = 0
-sideOf NoNumber = 0
+abbrev pub inadmissibleValues : Reason.Inadmissible → Values
+inadmissibleValues CertificateLength = refused wrongCertificateLength onCertificate 0
+inadmissibleValues IssuerLength = refused wrongIssuerLength onIssuer 0
+inadmissibleValues UnknownProfile = refused unknownProfile onNeither 0
 
--- "a refusal's place is a start within its side"
-abbrev pub placeOf : Refusal → ℕ
-placeOf CertificateLength = 0
-placeOf IssuerLength = 0
-placeOf UnknownProfile = 0
-placeOf (Unsound side place) = place
-placeOf (Unordered side place) = place
-placeOf (NotCertificate side place) = place
-placeOf NoRoom = 0
-placeOf NoNumber = 0
+abbrev pub refusalValues : Refusal → Values
+refusalValues (Inadmissible r) = inadmissibleValues r
+refusalValues (Unsound side place) = refused notSoundDer (sideNumber side) place
+refusalValues (Unordered side place) = refused setOutOfOrder (sideNumber side) place
+refusalValues (NotCertificate side place) = refused notCertificate (sideNumber side) place
+refusalValues NoRoom = refused tooLittleRoom onNeither 0
+
+-- the count is that of the findings
+abbrev pub answerValues : Answer → Values
+answerValues (Report count) = unrefused count
+answerValues (Refused r) = refusalValues r

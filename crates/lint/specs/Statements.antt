@@ -4,15 +4,15 @@ use mathlib.Core.List.{List}
 use mathlib.Core.Path.{_≡_}
 use Prim.Native.Nat.{ℕ, _<_}
 use lib.ListN.{length}
+use Rattle.lint.specs.Judging.{sideLengthOk}
+use Rattle.lint.specs.declared.reasons.Side.{Side}
+use Rattle.lint.specs.declared.reasons.Side.the-variants.{Certificate, Issuer}
+use Rattle.lint.specs.declared.reasons.Refusal.{Refusal}
 use Rattle.der.specs.Soundness.{derSoundness}
 use Rattle.der.specs.declared.walk.Soundness.the-variants.{Sound}
 use Rattle.asn.specs.Answers.{certificateVerdict}
 use Rattle.asn.specs.declared.fitting.Verdict.the-variants.{Fits}
-use Rattle.lint.specs.Judging.{sideLengthOk}
-use Rattle.lint.specs.declared.refusals.Side.{Side}
-use Rattle.lint.specs.declared.refusals.Side.the-variants.{Certificate, Issuer}
-use Rattle.lint.specs.declared.refusals.Refusal.{Refusal}
-use Rattle.lint.specs.declared.refusals.Refusal.the-variants as Refusals
+use Rattle.lint.specs.declared.reasons.Refusal.the-variants as Refusals
 
 -- a side that refusals 1, 2, 4, 5 and 6 leave alone
 pub record Acceptable (s : List ℕ) : Type 0 where
@@ -30,8 +30,5 @@ abbrev pub WithinSide : List ℕ → List ℕ → Refusal → Type 0
 WithinSide certificate issuer (Refusals.Unsound side place) = place < length (sideOctets certificate issuer side)
 WithinSide certificate issuer (Refusals.Unordered side place) = place < length (sideOctets certificate issuer side)
 WithinSide certificate issuer (Refusals.NotCertificate side place) = place < length (sideOctets certificate issuer side)
-WithinSide certificate issuer Refusals.CertificateLength = Unit {0}
-WithinSide certificate issuer Refusals.IssuerLength = Unit {0}
-WithinSide certificate issuer Refusals.UnknownProfile = Unit {0}
+WithinSide certificate issuer (Refusals.Inadmissible r) = Unit {0}
 WithinSide certificate issuer Refusals.NoRoom = Unit {0}
-WithinSide certificate issuer Refusals.NoNumber = Unit {0}

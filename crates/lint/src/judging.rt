@@ -1,12 +1,19 @@
 // Refusals 1 to 6, in their order: lengths and profile, and then 4, 5 and 6 on the certificate and on the issuer.
-use crate::refusals::Refusal;
-use crate::refusals::Side;
+use crate::reasons::Inadmissible;
+use crate::reasons::Refusal;
+use crate::reasons::Side;
 use asn::Verdict;
 use der::Soundness;
 use profiles::Asked;
 use profiles::Profile;
 ghost use mathlib.Core.Path.{_≡_};
 ghost use Rattle.lint.specs.Judging.{sideLengthOk, byVerdict, sideJudgement, bothSides, admissionOf, judgementOf};
+
+// What refusals 1 to 3 leave: a profile to go on for, or one of them.
+pub enum Admission {
+    Admitted(Profile),
+    Refused(Inadmissible),
+}
 
 // What refusals 1 to 6 leave: a profile to lint for, or a refusal.
 pub enum Judgement {
@@ -55,19 +62,19 @@ fn judge_both(p: Profile, certificate: &[u8], issuer: &[u8]) -> Judgement
 }
 
 // Refusals 1, 2 and 3, which the deck's writer gives too: of a certificate and an issuer of so many octets.
-pub fn admit(certificate: usize, issuer: usize, profile: u8) -> Judgement
+pub fn admit(certificate: usize, issuer: usize, profile: u8) -> Admission
     ensures { λ r. ⌜ r ≡ admissionOf certificate issuer profile ⌝ }
 {
     if !side_length_ok(certificate) {
-        return Judgement::Refused(Refusal::CertificateLength);
+        return Admission::Refused(Inadmissible::CertificateLength);
     }
     if !side_length_ok(issuer) {
-        return Judgement::Refused(Refusal::IssuerLength);
+        return Admission::Refused(Inadmissible::IssuerLength);
     }
     let asked = profiles::profile_of(profile);
     match asked {
-        Asked::Unknown => Judgement::Refused(Refusal::UnknownProfile),
-        Asked::For(p) => Judgement::Accepted(p),
+        Asked::Unknown => Admission::Refused(Inadmissible::UnknownProfile),
+        Asked::For(p) => Admission::Admitted(p),
     }
 }
 
@@ -76,7 +83,7 @@ pub fn examine(certificate: &[u8], issuer: &[u8], profile: u8) -> Judgement
 {
     let admission = admit(certificate.len(), issuer.len(), profile);
     match admission {
-        Judgement::Refused(r) => Judgement::Refused(r),
-        Judgement::Accepted(p) => judge_both(p, certificate, issuer),
+        Admission::Refused(r) => Judgement::Refused(Refusal::Inadmissible(r)),
+        Admission::Admitted(p) => judge_both(p, certificate, issuer),
     }
 }

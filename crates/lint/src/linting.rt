@@ -2,18 +2,33 @@
 // writes.
 use crate::judging::Judgement;
 use crate::judging::examine;
-use crate::refusals::Refusal;
+use crate::reasons::Refusal;
+use crate::reasons::refusal_values;
 use facts::Facts;
 use profiles::Profile;
+use refusals::Values;
+use refusals::unrefused;
+ghost use mathlib.Core.Path.{_≡_};
 ghost use Rattle.facts.specs.Case.{caseOf};
 ghost use Rattle.report.specs.Rows.{findingsOf};
 ghost use Rattle.rules.specs.Rules.{allRules, findings};
+ghost use Rattle.lint.specs.Refusals.{answerValues};
 ghost use Rattle.lint.specs.Answers.{Reported, Answered};
 
 pub enum Answer {
     // so many findings
     Report(usize),
     Refused(Refusal),
+}
+
+// The paper's number, side, place and count of findings.
+pub fn answer_values(answer: Answer) -> Values
+    ensures { λ v. ⌜ v ≡ answerValues answer ⌝ }
+{
+    match answer {
+        Answer::Report(count) => unrefused(count),
+        Answer::Refused(r) => refusal_values(r),
+    }
 }
 
 // The answer to the findings by these facts, and the room that they are written to.

@@ -11,8 +11,8 @@ use Rattle.listing.specs.Lines.{findingLine, refusalText, recordLine, lo
 use Rattle.listing.specs.Listing.{findingLines, recordLines, linesOf, listingOf, printed}
 use Rattle.texts.specs.Texts.{word, digitsBy, decimal}
 use Rattle.report.specs.Entries.{entryOf, decode}
-use Rattle.lint.specs.declared.refusals.Side.the-variants.{Certificate, Issuer}
-use Rattle.lint.specs.declared.refusals.Refusal.the-variants.{Unsound, NotCertificate}
+use Rattle.lint.specs.declared.reasons.Side.the-variants.{Certificate, Issuer}
+use Rattle.lint.specs.declared.reasons.Refusal.the-variants.{Unsound, NotCertificate}
 use Rattle.lint.specs.declared.linting.Answer.{Answer}
 use Rattle.lint.specs.declared.linting.Answer.the-variants.{Report, Refused}
 use Rattle.reader.specs.Runs.{blocks}

@@ -4,8 +4,8 @@ use Prim.Native.Nat.{ℕ}
 use Prim.Native.String.{String}
 use Rattle.texts.specs.Texts.{word, fieldOf}
 use Rattle.report.specs.declared.sink.Entry.{Entry}
-use Rattle.lint.specs.Refusals.{refusalNumber, sideOf, placeOf}
-use Rattle.lint.specs.declared.refusals.Refusal.{Refusal}
+use Rattle.lint.specs.Refusals.{refusalValues}
+use Rattle.lint.specs.declared.reasons.Refusal.{Refusal}
 use Rattle.lint.specs.declared.linting.Answer.{Answer}
 use Rattle.lint.specs.declared.linting.Answer.the-variants.{Report, Refused}
 use Rattle.reader.specs.declared.finding.Loss.{Loss}
@@ -19,7 +19,8 @@ findingLine e = fieldOf "  " (e .rule) ++ (fieldOf " at " (e .place .start) ++ (
 
 -- " refused 6 side 1 at 0"
 unfoldable pub refusalText : Refusal → List ℕ
-refusalText r = fieldOf " refused " (refusalNumber r) ++ (fieldOf " side " (sideOf r) ++ fieldOf " at " (placeOf r))
+refusalText r =
+    fieldOf " refused " (refusalValues r .number) ++ (fieldOf " side " (refusalValues r .side) ++ fieldOf " at " (refusalValues r .place))
 
 -- this, or " findings 2"
 abbrev pub answerText : Answer → List ℕ

@@ -28,9 +28,10 @@ pub fn finding_line(out: &mut [u8], n: usize, report: &[u8], k: usize) -> usize
 fn refusal(out: &mut [u8], n: usize, r: Refusal) -> usize
     ensures { λ m. ⌜ Spelled (refusalText r) n (now (out .entry)) m (now (out .exit)) ⌝ }
 {
-    let a = field(out, n, b" refused ", lint::refusal_number(r));
-    let b = field(out, a, b" side ", lint::side_of(r));
-    field(out, b, b" at ", lint::place_of(r))
+    let v = lint::refusal_values(r);
+    let a = field(out, n, b" refused ", v.number);
+    let b = field(out, a, b" side ", v.side);
+    field(out, b, b" at ", v.place)
 }
 
 fn outcome(out: &mut [u8], n: usize, answer: Answer) -> usize

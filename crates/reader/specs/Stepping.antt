@@ -1,17 +1,20 @@
 -- One step of the reader, complete: what it says, and what the room holds then. "The reader's caller lends it the linter's room, which it passes on
 -- whole" (document 01, "The deck").
 use mathlib.Core.Bool.{cond}
-use mathlib.Core.List.{List}
+use mathlib.Core.List.{List, [], _∷_}
 use mathlib.Core.Path.{_≡_}
 use Prim.Native.Nat.{ℕ, _*_}
 use lib.Dec.{ltb}
 use lib.ListN.{length}
-use Rattle.blocks.specs.Record.{parts, profileIn, certificateOctets, issuerOctets}
-use Rattle.lint.specs.Answers.{answerOf, roomOf}
 use Rattle.reader.specs.Runs.{from, starts}
 use Rattle.reader.specs.Events.{Event, record-at, lost-at, eventIf}
 use Rattle.reader.specs.declared.stepping.Record.{Record}
 use Rattle.reader.specs.declared.stepping.Item.{Item}
+use Rattle.refusals.specs.declared.table.Values.{Values}
+use Rattle.blocks.specs.Record.{parts, profileIn, certificateOctets, issuerOctets}
+use Rattle.lint.specs.Refusals.{answerValues}
+use Rattle.lint.specs.Values.{lintValues}
+use Rattle.lint.specs.Answers.{answerOf, roomOf}
 use Rattle.reader.specs.declared.stepping.Item.the-variants as Items
 
 -- record `number` with octets p, as the linter answers it in the room
@@ -52,12 +55,34 @@ itemAt deck position room = cond (ltb (512 * position) (length deck)) (itemOf ro
 unfoldable pub roomAt : List ℕ → ℕ → List ℕ → List ℕ
 roomAt deck position room = cond (ltb (512 * position) (length deck)) (roomAfter room (eventAt deck position)) room
 
--- the whole of it
+-- ---- the paper's values
+
+-- what the table of refusals gives for a record with octets p
+unfoldable pub recordValues : List ℕ → List ℕ → Values
+recordValues p room = lintValues (certificateOctets p) (issuerOctets p) (profileIn p) room
+
+-- of an item: a record's answer has values, a lost block has none
+abbrev pub itemValues : Item → List Values
+itemValues (Items.Record r) = answerValues (r .answer) ∷ []
+itemValues (Items.Lost loss) = []
+itemValues Items.End = []
+
+abbrev pub eventValues : List ℕ → Event → List Values
+eventValues room (record-at position number p) = recordValues p room ∷ []
+eventValues room (lost-at position loss) = []
+
+unfoldable pub valuesAt : List ℕ → ℕ → List ℕ → List Values
+valuesAt deck position room = cond (ltb (512 * position) (length deck)) (eventValues room (eventAt deck position)) []
+
+-- ---- the whole of it
+
 pub record Stepped (deck : List ℕ) (position : ℕ) (room : List ℕ) (r : Item) (last : List ℕ) : Type 0 where
   pub told : r ≡ itemAt deck position room
+  pub values : itemValues r ≡ valuesAt deck position room
   pub bytes : last ≡ roomAt deck position room
 
 -- the same of record `number` with octets p
 pub record Linted (number : ℕ) (p room : List ℕ) (r : Record) (last : List ℕ) : Type 0 where
   pub told : r ≡ lintedRecord number p room
+  pub values : answerValues (r .answer) ≡ recordValues p room
   pub bytes : last ≡ lintedRoom p room

@@ -5,7 +5,7 @@ use Prim.Native.Nat.{ℕ, suc}
 use lib.ListN.{length}
 use Rattle.profiles.specs.declared.fields.Profile.{Profile}
 use Rattle.lint.specs.Judging.{admissionOf}
-use Rattle.lint.specs.declared.judging.Judgement.the-variants.{Accepted}
+use Rattle.lint.specs.declared.judging.Admission.the-variants.{Admitted}
 use Rattle.blocks.specs.Record.{recordOf}
 use Rattle.writer.specs.Cutting.{blocksOf}
 
@@ -21,7 +21,7 @@ submittedOctets s = recordOf (s .profile) (s .certificate) (s .issuer)
 -- the writer takes it: refusals 1, 2 and 3 leave it alone
 pub record Writable (s : Submitted) : Type 0 where
   pub for : Profile
-  pub admitted : admissionOf (length (s .certificate)) (length (s .issuer)) (s .profile) ≡ Accepted for
+  pub admitted : admissionOf (length (s .certificate)) (length (s .issuer)) (s .profile) ≡ Admitted for
 
 abbrev pub AllWritable : List Submitted → Type 0
 AllWritable [] = Unit {0}

@@ -7,7 +7,7 @@ use lib.ListN.{length, take}
 use Rattle.retrieval.specs.Fetching.{numbered, sidesOf, FetchedFirst}
 use Rattle.retrieval.specs.declared.Fetched.{Fetched}
 use Rattle.retrieval.specs.declared.Fetched.the-variants.{Octets, Nothing, NoRoom}
-use Rattle.lint.specs.declared.refusals.Side.{Side}
+use Rattle.lint.specs.declared.reasons.Side.{Side}
 use Rattle.reader.specs.Events.{eventsFrom}
 
 -- what `fetch` ensures

@@ -9,7 +9,7 @@ use lib.ListN.{length}
 use Rattle.retrieval.specs.declared.Fetched.{Fetched}
 use Rattle.retrieval.specs.declared.Fetched.the-variants.{Octets, Nothing, NoRoom}
 use Rattle.blocks.specs.Record.{parts, certificateOctets, issuerOctets}
-use Rattle.lint.specs.declared.refusals.Side.{Side}
+use Rattle.lint.specs.declared.reasons.Side.{Side}
 use Rattle.lint.specs.Statements.{sideOctets}
 use Rattle.reader.specs.Events.{Event, record-at, lost-at, events}
 use Rattle.reader.specs.Taking.{inFrontOf}

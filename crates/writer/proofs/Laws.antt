@@ -2,5 +2,6 @@
 pub mod Cutting
 pub mod Rooms
 pub mod Desk
+pub mod Values
 pub mod Answers
 pub mod Statements

@@ -1,6 +1,9 @@
 // The writer: refusals 1, 2, 3, 8 and 7 in this order, then the record's blocks (document 01, "The deck").
-use lint::Judgement;
-use lint::Refusal;
+use crate::reasons::NotWritten;
+use crate::reasons::not_written_values;
+use lint::Admission;
+use refusals::Values;
+use refusals::unrefused;
 ghost use mathlib.Core.Path.{_≡_};
 ghost use mathlib.Core.List.{_++_, _∷_, []};
 ghost use Prim.Native.Nat.{_+_, _*_, _≤_, _<_};
@@ -9,12 +12,23 @@ ghost use Rattle.octets.specs.Numbers.{pairOf, quadOf};
 ghost use Rattle.blocks.specs.Block.{blockOf, checkOf};
 ghost use Rattle.blocks.specs.Record.{recordOf, parts};
 ghost use Rattle.writer.specs.Cutting.{blocksFrom, blocksOf, endToEnd};
+ghost use Rattle.writer.specs.Values.{placingValues};
 ghost use Rattle.writer.specs.Answers.{Written};
 
 pub enum Placing {
     // so many blocks
     Blocks(usize),
-    Refused(Refusal),
+    Refused(NotWritten),
+}
+
+// The paper's number, side, place and count of blocks.
+pub fn placing_values(placing: Placing) -> Values
+    ensures { λ v. ⌜ v ≡ placingValues placing ⌝ }
+{
+    match placing {
+        Placing::Blocks(count) => unrefused(count),
+        Placing::Refused(r) => not_written_values(r),
+    }
 }
 
 // Lays a record out at the front of the desk: "profile octet, certificate length in two octets, certificate, issuer".
@@ -110,15 +124,15 @@ pub fn write_record(
     ensures { λ r. ⌜ Written number profile (now (certificate .entry)) (now (issuer .entry)) (now (room .entry)) r (now (room .exit)) ⌝ }
 {
     let admission = lint::admit(certificate.len(), issuer.len(), profile);
-    if let Judgement::Refused(r) = admission {
-        return Placing::Refused(r);
+    if let Admission::Refused(r) = admission {
+        return Placing::Refused(NotWritten::Inadmissible(r));
     }
     if number == 0 {
-        return Placing::Refused(Refusal::NoNumber);
+        return Placing::Refused(NotWritten::NoNumber);
     }
     let count = blocks::parts_of(3 + certificate.len() + issuer.len());
     if room.len() < 512 * count {
-        return Placing::Refused(Refusal::NoRoom);
+        return Placing::Refused(NotWritten::NoRoom);
     }
     put_record(number, profile, certificate, issuer, count, room);
     Placing::Blocks(count)

@@ -1,43 +1,58 @@
 -- Number, side and place in one number.
---     number-small, side-small     the paper's numbers are at most 8, its sides at most 2
---     packed-by                    a refusal's number, by what is read of the refusal
+--     lint-packable, write-packable     the values of an answer have room there: the paper's numbers are at most 8, its sides at most 2, its places
+--                                       below 8,192
+--     packed-count, packed-by           the number of an answer that is no refusal, and of one that is
 -- Assumes nothing.
-use mathlib.Core.Path.{_≡_}
-use Prim.Native.Nat.{ℕ, _+_, _*_, _^_, _≤_}
+use mathlib.Core.Path.{_≡_, refl, subst}
+use mathlib.Core.List.{List}
+use mathlib.Core.Logic.{_≢_}
+use Prim.Native.Nat.{ℕ, _+_, _*_, _^_, _<_}
 use native.Mathlib.Omega.{arith}
-use Rattle.lint.specs.Refusals.{refusalNumber, sideNumber, sideOf, placeOf}
-use Rattle.lint.specs.declared.refusals.Side.{Side}
-use Rattle.lint.specs.declared.refusals.Side.the-variants.{Certificate, Issuer}
-use Rattle.lint.specs.declared.refusals.Refusal.{Refusal}
-use Rattle.lint.specs.declared.refusals.Refusal.the-variants.{CertificateLength, IssuerLength, UnknownProfile, Unsound, Unordered, NotCertificate}
-use Rattle.lint.specs.declared.refusals.Refusal.the-variants.{NoRoom, NoNumber}
-use Rattle.export.specs.Packing.{packedRefusal}
+use borrow.Author.Tests.{eq-eqb, ne-eqb}
+use Rattle.export.specs.Packing.{packedRefusal, packedValues, Packable}
+use Rattle.refusals.specs.declared.table.Values.{Values}
+use Rattle.refusals.proofs.Laws.Table.{Tabled}
+use Rattle.lint.specs.Refusals.{refusalValues, answerValues}
+use Rattle.lint.specs.Values.{lintValues}
+use Rattle.lint.specs.Answers.{answerOf}
+use Rattle.lint.proofs.Laws.Bounds.{refusal-low}
+use Rattle.lint.proofs.Laws.Values.{refusal-tabled, lint-values}
+use Rattle.writer.specs.Values.{notWrittenValues, placingValues, writeValues}
+use Rattle.writer.specs.Answers.{writeAnswer}
+use Rattle.writer.proofs.Laws.Answers.{refused-nowhere}
+use Rattle.writer.proofs.Laws.Values.{not-written-tabled, write-values}
+use Rattle.lint.specs.declared.linting.Answer as Linting
+use Rattle.lint.specs.declared.linting.Answer.the-variants as Linted
+use Rattle.writer.specs.declared.writing.Placing as Writing
+use Rattle.writer.specs.declared.writing.Placing.the-variants as Written
 
-pub number-small : (r : Refusal) → refusalNumber r ≤ 8
-number-small CertificateLength = omega arith
-number-small IssuerLength = omega arith
-number-small UnknownProfile = omega arith
-number-small (Unsound side place) = omega arith
-number-small (Unordered side place) = omega arith
-number-small (NotCertificate side place) = omega arith
-number-small NoRoom = omega arith
-number-small NoNumber = omega arith
+-- ---- what has room
 
-side-number-small : (side : Side) → sideNumber side ≤ 2
-side-number-small Certificate = omega arith
-side-number-small Issuer = omega arith
+tabled-packable : (v : Values) → Tabled v → v .place < 8192 → Packable v
+tabled-packable v t l = record { number = omega (arith, t .number); side = omega (arith, t .side); place = omega arith }
 
-pub side-small : (r : Refusal) → sideOf r ≤ 2
-side-small CertificateLength = omega arith
-side-small IssuerLength = omega arith
-side-small UnknownProfile = omega arith
-side-small (Unsound side place) = side-number-small side
-side-small (Unordered side place) = side-number-small side
-side-small (NotCertificate side place) = side-number-small side
-side-small NoRoom = omega arith
-side-small NoNumber = omega arith
+pub lint-packable : (certificate issuer : List ℕ) (profile : ℕ) (room : List ℕ) → Packable (lintValues certificate issuer profile room)
+lint-packable certificate issuer profile room =
+    subst Packable (lint-values certificate issuer profile room) (go (answerOf certificate issuer profile room) refl)
+  where
+    go : (answer : Linting.Answer) → answerOf certificate issuer profile room ≡ answer → Packable (answerValues answer)
+    go (Linted.Report count) e = record { number = omega arith; side = omega arith; place = omega arith }
+    go (Linted.Refused r) e = tabled-packable (refusalValues r) (refusal-tabled r) (refusal-low certificate issuer profile room r e)
 
-pub packed-by : (r : Refusal) (number side place : ℕ) → number ≡ refusalNumber r → side ≡ sideOf r → place ≡ placeOf r
-    → 2 ^ 63 + number * 2 ^ 32 + side * 2 ^ 16 + place ≡ packedRefusal r
-unfolding packedRefusal
-packed-by r number side place n s p = rw (n, s, p)
+pub write-packable : (number profile : ℕ) (certificate issuer room : List ℕ) → Packable (writeValues number profile certificate issuer room)
+write-packable number profile certificate issuer room =
+    subst Packable (write-values number profile certificate issuer room) (go (writeAnswer number profile certificate issuer room))
+  where
+    go : (answer : Writing.Placing) → Packable (placingValues answer)
+    go (Written.Blocks count) = record { number = omega arith; side = omega arith; place = omega arith }
+    go (Written.Refused r) = tabled-packable (notWrittenValues r) (not-written-tabled r) (omega (arith, refused-nowhere r))
+
+-- ---- the number
+
+module _ (v : Values) where
+  pub packed-count : v .number ≡ 0 → v .count ≡ packedValues v
+  packed-count z = rw (eq-eqb (v .number) 0 z)
+
+  pub packed-by : v .number ≢ 0 → 2 ^ 63 + v .number * 2 ^ 32 + v .side * 2 ^ 16 + v .place ≡ packedValues v
+  unfolding packedRefusal
+  packed-by h = rw (ne-eqb (v .number) 0 h)

@@ -1,32 +1,22 @@
--- `export::dlozamife_lint` meets its contract: the place of a refusal is below 8,192, so it has room in the number. Assumes nothing.
-use mathlib.Core.Path.{sym, _∙_}
-use native.Mathlib.Omega.{arith}
+-- `export::dlozamife_lint` meets its contract: the values of the answer are the table's, and have room in the number. Assumes nothing.
+use mathlib.Core.Path.{_≡_, sym, ap, subst, _∙_}
 use borrow.Author.Needs.{needs}
-use Rattle.lint.proofs.Laws.Bounds.{refusal-low}
+use Rattle.export.specs.Packing.{packedValues, Packable}
+use Rattle.lint.specs.Values.{lintValues}
+use Rattle.export.proofs.Laws.Packing.{lint-packable}
 use Rattle.export.proofs.dlozamife_lint.Statement.{statement}
 use Rattle.export.proofs.dlozamife_lint.Tie as tie
 
+valued : (c : tie.After-answer-values)
+    → let a = c .before .before .before .before .before .before .before .before .args in
+    c .answer-values .result ≡ lintValues (a .certificate .now) (a .issuer .now) (a .profile) (a .room .now)
+valued c = c .answer-values .ensures ∙ c .before .before .before .lint .ensures .values
+
 packed-requires : tie.Need-packed-requires
-packed-requires c κs =
-    let told = c .before in
-    let call = told .before .before .before .before in
-    let a = call .before .before .before .before .before .args in
-    omega (arith, refusal-low (a .certificate .now) (a .issuer .now) (a .profile) (a .room .now) _ (sym (call .lint .ensures .told) ∙ told .answer2 .given .1))
+packed-requires c κs = subst Packable (sym (valued c)) (lint-packable _ _ _ _)
 
 returns : tie.Need-returns
-returns c =
-    let told = c .before in
-    let call = told .before .before .before .before in
-    (rw (← call .lint .ensures .told, told .answer .given .1), call .lint .ensures .bytes)
-
-returns-2 : tie.Need-returns-2
-returns-2 c =
-    let told = c .before .before in
-    let call = told .before .before .before .before in
-    (rw (← call .lint .ensures .told, told .answer2 .given .1) (c .packed .ensures), call .lint .ensures .bytes)
+returns c = (c .packed .ensures ∙ ap packedValues (valued (c .before)), c .before .before .before .before .lint .ensures .bytes)
 
 pub dlozamife-lint-spec : {M : Type 1} → statement M
-dlozamife-lint-spec =
-    tie.close
-    (tie.spec (λ c κs. tt) (λ c. search needs) (λ c. search needs) packed-requires (λ c. search needs) returns
-    (λ c. search needs) returns-2)
+dlozamife-lint-spec = tie.close (tie.spec (λ c κs. tt) (λ c κs. tt) packed-requires (λ c. search needs) returns)

@@ -11,6 +11,14 @@ use native.Mathlib.Omega.{arith}
 use lib.Dec.{leb}
 use lib.ListN.{length}
 use borrow.Author.Tests.{leb-true}
+use Rattle.lint.specs.Judging.{sideLengthOk, byVerdict, bySoundness, sideJudgement, orElse, bothSides, admissionOf, onceAdmitted, judgementOf}
+use Rattle.lint.specs.declared.reasons.Side.{Side}
+use Rattle.lint.specs.declared.reasons.Side.the-variants.{Certificate, Issuer}
+use Rattle.lint.specs.declared.reasons.Inadmissible.{Inadmissible}
+use Rattle.lint.specs.declared.reasons.Refusal.{Refusal}
+use Rattle.lint.specs.declared.judging.Admission.{Admission}
+use Rattle.lint.specs.declared.judging.Judgement.{Judgement}
+use Rattle.lint.specs.declared.judging.Judgement.the-variants.{Accepted, Refused}
 use Rattle.octets.proofs.Laws.Tests.{and-l, and-r}
 use Rattle.der.specs.Soundness.{derSoundness}
 use Rattle.der.specs.declared.walk.Soundness.{Soundness}
@@ -19,12 +27,7 @@ use Rattle.asn.specs.Answers.{certificateVerdict}
 use Rattle.asn.specs.declared.fitting.Verdict.{Verdict}
 use Rattle.asn.specs.declared.fitting.Verdict.the-variants.{Stranger, Fits, Wrong}
 use Rattle.profiles.specs.declared.fields.Profile.{Profile}
-use Rattle.lint.specs.Judging.{sideLengthOk, byVerdict, bySoundness, sideJudgement, orElse, bothSides, admissionOf, onceAdmitted, judgementOf}
-use Rattle.lint.specs.declared.refusals.Side.{Side}
-use Rattle.lint.specs.declared.refusals.Side.the-variants.{Certificate, Issuer}
-use Rattle.lint.specs.declared.refusals.Refusal.{Refusal}
-use Rattle.lint.specs.declared.judging.Judgement.{Judgement}
-use Rattle.lint.specs.declared.judging.Judgement.the-variants.{Accepted, Refused}
+use Rattle.lint.specs.declared.judging.Admission.the-variants as Admissions
 
 -- what is refused is not accepted
 refused : (r : Refusal) (p : Profile) → Refused r ≡ Accepted p → ⊥
@@ -33,14 +36,17 @@ refused r p e =
     omega arith
 
 -- a test that refuses if it fails
-passed : (b : Bool) (j : Judgement) (r : Refusal) (p : Profile) → cond b j (Refused r) ≡ Accepted p → (b ≡ true) × (j ≡ Accepted p)
-passed true j r p e = (refl, e)
-passed false j r p e = absurd (refused r p e)
+passed : (b : Bool) (a : Admission) (r : Inadmissible) (p : Profile) → cond b a (Admissions.Refused r) ≡ Admissions.Admitted p
+    → (b ≡ true) × (a ≡ Admissions.Admitted p)
+passed true a r p e = (refl, e)
+passed false a r p e =
+    let z : _≡_ {A = ℕ} 0 1 = cc e in
+    absurd (omega arith)
 
 sized : (n : ℕ) → sideLengthOk n ≡ true → (1 ≤ n) × (n ≤ 8192)
 sized n t = (leb-true 1 n (and-l (leb 1 n) (leb n 8192) t), leb-true n 8192 (and-r (leb 1 n) (leb n 8192) t))
 
-module _ (certificate issuer profile : ℕ) (p : Profile) (e : admissionOf certificate issuer profile ≡ Accepted p) where
+module _ (certificate issuer profile : ℕ) (p : Profile) (e : admissionOf certificate issuer profile ≡ Admissions.Admitted p) where
   pub admitted-certificate : (1 ≤ certificate) × (certificate ≤ 8192)
   unfolding admissionOf
   admitted-certificate = sized certificate (passed (sideLengthOk certificate) _ _ p e .0)
@@ -68,11 +74,11 @@ first-accepts (Refused r) b p e = absurd (refused r p e)
 first-accepts (Accepted q) b p e = (q, refl)
 
 -- what is accepted was admitted, and then neither side was refused
-admitted : (a : Judgement) (p : Profile) (s issuer : List ℕ) → onceAdmitted a s issuer ≡ Accepted p
-    → (q : Profile) × (a ≡ Accepted q) × (certificateVerdict s ≡ Fits)
+admitted : (a : Admission) (p : Profile) (s issuer : List ℕ) → onceAdmitted a s issuer ≡ Accepted p
+    → (q : Profile) × (a ≡ Admissions.Admitted q) × (certificateVerdict s ≡ Fits)
 unfolding bothSides
-admitted (Refused r) p s issuer e = absurd (refused r p e)
-admitted (Accepted q) p s issuer e =
+admitted (Admissions.Refused r) p s issuer e = absurd (refused _ p e)
+admitted (Admissions.Admitted q) p s issuer e =
     let f = first-accepts (sideJudgement q Certificate s) (sideJudgement q Issuer issuer) p e in
     (q, refl, side-fits q (f .0) Certificate s (f .1))
 

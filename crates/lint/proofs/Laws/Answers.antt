@@ -11,13 +11,13 @@ use Prim.Native.Nat.{ℕ, _*_, _≤_, _<_, _^_}
 use lib.Dec.{leb}
 use lib.ListN.{length}
 use borrow.Author.Tests.{not-true, not-false}
+use Rattle.lint.specs.Answers.{answerTo, Reported}
+use Rattle.lint.specs.declared.reasons.Refusal.the-variants.{NoRoom}
+use Rattle.lint.specs.declared.linting.Answer.the-variants.{Report, Refused}
 use Rattle.report.specs.declared.sink.Entry.{Entry}
 use Rattle.report.specs.Entries.{width}
 use Rattle.report.specs.Putting.{Put}
 use Rattle.report.proofs.Laws.Passes.{pass-short, pass-written, pass-none}
-use Rattle.lint.specs.Answers.{answerTo, Reported}
-use Rattle.lint.specs.declared.refusals.Refusal.the-variants.{NoRoom}
-use Rattle.lint.specs.declared.linting.Answer.the-variants.{Report, Refused}
 
 module _ (es : List Entry) (room : List ℕ) {n : ℕ} {left : List ℕ} {fit : Bool}
     (p : Put es 0 [] n left) (t : fit ≡ leb (width * n) (length (left ++ room))) where

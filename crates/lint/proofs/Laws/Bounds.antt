@@ -1,7 +1,7 @@
 -- Bounds of what an answer says.
 --     refusal-inside        "a refusal's place is a start within its side"
 --     refusal-low           so it is below 8,192
---     admission-nowhere     the place of refusals 1, 2 and 3 is 0
+--     inadmissible-nowhere  the place of refusals 1, 2 and 3 is 0
 --     count-fits            as many findings as are counted have room
 -- Assumes nothing.
 use mathlib.Core.Path.{_≡_, refl, subst}
@@ -12,6 +12,19 @@ use native.Mathlib.Nat.{lt-of-lt-of-le}
 use native.Mathlib.Omega.{arith}
 use lib.ListN.{length}
 use borrow.Author.Tests.{leb-true}
+use Rattle.lint.specs.Refusals.{inadmissibleValues, refusalValues}
+use Rattle.lint.specs.Judging.{bySoundness, sideJudgement, orElse, bothSides, admissionOf, onceAdmitted, judgementOf}
+use Rattle.lint.specs.Answers.{answerTo, answerBy, answerOf}
+use Rattle.lint.specs.Statements.{sideOctets, WithinSide}
+use Rattle.lint.specs.declared.reasons.Side.{Side}
+use Rattle.lint.specs.declared.reasons.Side.the-variants.{Certificate, Issuer}
+use Rattle.lint.specs.declared.reasons.Inadmissible.{Inadmissible}
+use Rattle.lint.specs.declared.reasons.Inadmissible.the-variants.{CertificateLength, IssuerLength, UnknownProfile}
+use Rattle.lint.specs.declared.reasons.Refusal.{Refusal}
+use Rattle.lint.specs.declared.judging.Admission.{Admission}
+use Rattle.lint.specs.declared.judging.Judgement.{Judgement}
+use Rattle.lint.specs.declared.linting.Answer.{Answer}
+use Rattle.lint.specs.declared.linting.Answer.the-variants.{Report, Refused}
 use Rattle.der.specs.Soundness.{derSoundness, soundnessPlace}
 use Rattle.der.specs.declared.walk.Soundness.{Soundness}
 use Rattle.der.specs.declared.walk.Soundness.the-variants.{Sound, Unsound, Unordered}
@@ -20,55 +33,29 @@ use Rattle.asn.specs.Answers.{certificateVerdict, verdictPlace}
 use Rattle.asn.specs.declared.fitting.Verdict.{Verdict}
 use Rattle.asn.specs.declared.fitting.Verdict.the-variants.{Stranger, Fits, Wrong}
 use Rattle.asn.proofs.Laws.Places.{departure-inside}
-use Rattle.profiles.specs.Fields.{askedOf}
 use Rattle.profiles.specs.declared.fields.Profile.{Profile}
-use Rattle.profiles.specs.declared.fields.Asked.{Asked}
-use Rattle.profiles.specs.declared.fields.Asked.the-variants.{For, Unknown}
 use Rattle.report.specs.Entries.{width}
 use Rattle.report.specs.Answers.{enoughRoom}
 use Rattle.report.specs.declared.sink.Entry.{Entry}
-use Rattle.lint.specs.Refusals.{placeOf}
-use Rattle.lint.specs.Judging.{sideLengthOk, bySoundness, sideJudgement, orElse, bothSides, forProfile, admissionOf, onceAdmitted, judgementOf}
 use Rattle.rules.specs.Rules.{findings}
-use Rattle.lint.specs.Answers.{answerTo, answerBy, answerOf}
-use Rattle.lint.specs.Statements.{sideOctets, WithinSide}
-use Rattle.lint.specs.declared.refusals.Side.{Side}
-use Rattle.lint.specs.declared.refusals.Side.the-variants.{Certificate, Issuer}
-use Rattle.lint.specs.declared.refusals.Refusal.{Refusal}
-use Rattle.lint.specs.declared.refusals.Refusal.the-variants as Refusals
-use Rattle.lint.specs.declared.judging.Judgement.{Judgement}
-use Rattle.lint.specs.declared.judging.Judgement.the-variants as Judgements
-use Rattle.lint.specs.declared.linting.Answer.{Answer}
-use Rattle.lint.specs.declared.linting.Answer.the-variants.{Report, Refused}
 use Rattle.lint.proofs.Laws.Accepted.{admitted-certificate, admitted-issuer}
+use Rattle.lint.specs.declared.reasons.Refusal.the-variants as Refusals
+use Rattle.lint.specs.declared.judging.Admission.the-variants as Admissions
+use Rattle.lint.specs.declared.judging.Judgement.the-variants as Judgements
 
 -- ---- refusals 1, 2 and 3
 
-pub record Nowhere (r : Refusal) : Type 0 where
-  pub place : placeOf r ≡ 0
-  pub within : (certificate issuer : List ℕ) → WithinSide certificate issuer r
-
-abbrev NowhereBy : Judgement → Type 0
-NowhereBy (Judgements.Refused r) = Nowhere r
-NowhereBy (Judgements.Accepted p) = Unit {0}
-
-pub admission-nowhere : (certificate issuer profile : ℕ) (r : Refusal) → admissionOf certificate issuer profile ≡ Judgements.Refused r → Nowhere r
-unfolding admissionOf
-admission-nowhere certificate issuer profile r e = subst NowhereBy e (go (sideLengthOk certificate) (sideLengthOk issuer) (askedOf profile))
-  where
-    go : (a b : Bool) (asked : Asked)
-        → NowhereBy (cond a (cond b (forProfile asked) (Judgements.Refused Refusals.IssuerLength)) (Judgements.Refused Refusals.CertificateLength))
-    go true true (For p) = tt
-    go true true Unknown = record { place = refl; within = λ c i. tt }
-    go true false asked = record { place = refl; within = λ c i. tt }
-    go false b asked = record { place = refl; within = λ c i. tt }
+pub inadmissible-nowhere : (r : Inadmissible) → inadmissibleValues r .place ≡ 0
+inadmissible-nowhere CertificateLength = refl
+inadmissible-nowhere IssuerLength = refl
+inadmissible-nowhere UnknownProfile = refl
 
 -- ---- all refusals of a call
 
 module _ (certificate issuer : List ℕ) where
   record Placed (r : Refusal) : Type 0 where
     within : WithinSide certificate issuer r
-    low : placeOf r < 8192
+    low : refusalValues r .place < 8192
 
   abbrev PlacedBy : Judgement → Type 0
   PlacedBy (Judgements.Refused r) = Placed r
@@ -106,11 +93,9 @@ module _ (certificate issuer : List ℕ) where
   unfolding judgementOf
   judgement-placed profile = go (admissionOf (length certificate) (length issuer) profile) refl
     where
-      go : (a : Judgement) → admissionOf (length certificate) (length issuer) profile ≡ a → PlacedBy (onceAdmitted a certificate issuer)
-      go (Judgements.Refused r) e =
-          let n = admission-nowhere (length certificate) (length issuer) profile r e in
-          record { within = n .within certificate issuer; low = omega (arith, n .place) }
-      go (Judgements.Accepted p) e = both-placed p (admitted-certificate _ _ _ p e) (admitted-issuer _ _ _ p e)
+      go : (a : Admission) → admissionOf (length certificate) (length issuer) profile ≡ a → PlacedBy (onceAdmitted a certificate issuer)
+      go (Admissions.Refused r) e = record { within = tt; low = omega (arith, inadmissible-nowhere r) }
+      go (Admissions.Admitted p) e = both-placed p (admitted-certificate _ _ _ p e) (admitted-issuer _ _ _ p e)
 
   abbrev PlacedIn : Answer → Type 0
   PlacedIn (Refused r) = Placed r
@@ -137,7 +122,7 @@ module _ (certificate issuer : List ℕ) where
     pub refusal-inside : WithinSide certificate issuer r
     refusal-inside = placed .within
 
-    pub refusal-low : placeOf r < 8192
+    pub refusal-low : refusalValues r .place < 8192
     refusal-low = placed .low
 
 -- ---- findings

@@ -10,12 +10,12 @@ use mathlib.Core.Bool.{Bool, true, false, cond}
 use Prim.Native.Nat.{ℕ, _*_}
 use lib.Dec.{leb}
 use lib.ListN.{length}
-use Rattle.rules.specs.Rules.{findings}
 use Rattle.lint.specs.Judging.{judgementOf}
 use Rattle.lint.specs.Answers.{answerTo, answerBy, roomBy, answerOf, roomOf, reportOf}
-use Rattle.lint.specs.declared.refusals.Refusal.the-variants.{NoRoom}
+use Rattle.lint.specs.declared.reasons.Refusal.the-variants.{NoRoom}
 use Rattle.lint.specs.declared.judging.Judgement.{Judgement}
 use Rattle.lint.specs.declared.linting.Answer.the-variants.{Report, Refused}
+use Rattle.rules.specs.Rules.{findings}
 use Rattle.profiles.specs.declared.fields.Profile.{Profile}
 use Rattle.report.specs.Entries.{width, reportOctets}
 use Rattle.report.specs.Answers.{enoughRoom, filled}

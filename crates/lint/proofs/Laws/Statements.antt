@@ -10,8 +10,17 @@ use mathlib.Core.List.{List}
 use mathlib.Core.Bool.{Bool, true, false, cond}
 use Prim.Native.Nat.{ℕ}
 use lib.ListN.{length}
-use Rattle.der.specs.Soundness.{derSoundness}
-use Rattle.asn.specs.Answers.{certificateVerdict}
+use Rattle.lint.specs.Judging.{sideLengthOk, sideJudgement, bothSides, forProfile, admissionOf, onceAdmitted, judgementOf}
+use Rattle.lint.specs.Answers.{answerTo, answerBy, roomBy, answerOf, roomOf, Answered}
+use Rattle.lint.specs.Statements.{Acceptable}
+use Rattle.lint.specs.declared.reasons.Side.{Side}
+use Rattle.lint.specs.declared.reasons.Side.the-variants.{Certificate, Issuer}
+use Rattle.lint.specs.declared.reasons.Inadmissible.the-variants.{CertificateLength}
+use Rattle.lint.specs.declared.reasons.Refusal.{Refusal}
+use Rattle.lint.specs.declared.judging.Admission.{Admission}
+use Rattle.lint.specs.declared.judging.Judgement.{Judgement}
+use Rattle.lint.specs.declared.linting.Answer.{Answer}
+use Rattle.lint.specs.declared.linting.Answer.the-variants.{Report, Refused}
 use Rattle.profiles.specs.Fields.{askedOf}
 use Rattle.profiles.specs.declared.fields.Profile.{Profile}
 use Rattle.profiles.specs.declared.fields.Asked.the-variants.{For}
@@ -20,17 +29,9 @@ use Rattle.report.specs.declared.sink.Entry.{Entry}
 use Rattle.report.proofs.Laws.Passes.{filled-short}
 use Rattle.certificate.specs.Issuer.{knownOf}
 use Rattle.rules.specs.Rules.{findingsFor, findings}
-use Rattle.lint.specs.Judging.{sideLengthOk, bySoundness, sideJudgement, orElse, bothSides, forProfile, admissionOf, onceAdmitted, judgementOf}
-use Rattle.lint.specs.Answers.{answerTo, answerBy, roomBy, answerOf, roomOf, Answered}
-use Rattle.lint.specs.Statements.{Acceptable}
-use Rattle.lint.specs.declared.refusals.Side.{Side}
-use Rattle.lint.specs.declared.refusals.Side.the-variants.{Certificate, Issuer}
-use Rattle.lint.specs.declared.refusals.Refusal.{Refusal}
-use Rattle.lint.specs.declared.refusals.Refusal.the-variants as Refusals
-use Rattle.lint.specs.declared.judging.Judgement.{Judgement}
+use Rattle.lint.specs.declared.reasons.Refusal.the-variants as Refusals
+use Rattle.lint.specs.declared.judging.Admission.the-variants as Admissions
 use Rattle.lint.specs.declared.judging.Judgement.the-variants as Judgements
-use Rattle.lint.specs.declared.linting.Answer.{Answer}
-use Rattle.lint.specs.declared.linting.Answer.the-variants.{Report, Refused}
 
 -- ---- S11
 
@@ -57,11 +58,11 @@ same-judgement : (certificate i j : List ℕ) (profile : ℕ) → Acceptable i �
 unfolding judgementOf admissionOf bothSides
 same-judgement certificate i j profile a b =
     rw (a .sized, b .sized) (go (cond (sideLengthOk (length certificate)) (forProfile (askedOf profile))
-    (Judgements.Refused Refusals.CertificateLength)))
+    (Admissions.Refused CertificateLength)))
   where
-    go : (admission : Judgement) → onceAdmitted admission certificate i ≡ onceAdmitted admission certificate j
-    go (Judgements.Refused r) = refl
-    go (Judgements.Accepted p) = rw (side-accepted p Issuer i a, side-accepted p Issuer j b)
+    go : (admission : Admission) → onceAdmitted admission certificate i ≡ onceAdmitted admission certificate j
+    go (Admissions.Refused r) = refl
+    go (Admissions.Admitted p) = rw (side-accepted p Issuer i a, side-accepted p Issuer j b)
 
 same-by : (judgement : Judgement) (certificate i j room : List ℕ) → knownOf i ≡ knownOf j
     → (answerBy judgement certificate i room ≡ answerBy judgement certificate j room) ×

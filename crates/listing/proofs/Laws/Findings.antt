@@ -13,7 +13,7 @@ use Rattle.listing.specs.Listing.{findingLines, reportedEntries, recordL
 use Rattle.texts.specs.Putting.{Spelled}
 use Rattle.report.specs.Entries.{entryOf, decode}
 use Rattle.report.specs.declared.sink.Entry.{Entry}
-use Rattle.lint.specs.declared.refusals.Refusal.{Refusal}
+use Rattle.lint.specs.declared.reasons.Refusal.{Refusal}
 use Rattle.lint.specs.declared.linting.Answer.{Answer}
 use Rattle.lint.specs.declared.linting.Answer.the-variants.{Report, Refused}
 use Rattle.reader.specs.declared.stepping.Record.{Record}

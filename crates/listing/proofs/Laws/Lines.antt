@@ -16,13 +16,10 @@ use Rattle.texts.specs.Texts.{word, decimal}
 use Rattle.octets.specs.Octets.{Octets}
 use Rattle.report.specs.Entries.{width, entryOf, decode}
 use Rattle.report.specs.declared.sink.Entry.{Entry}
-use Rattle.lint.specs.Refusals.{refusalNumber, sideNumber, sideOf, placeOf}
+use Rattle.lint.specs.Refusals.{refusalValues}
 use Rattle.lint.specs.Answers.{answerOf}
 use Rattle.lint.proofs.Laws.Bounds.{count-fits}
-use Rattle.lint.specs.declared.refusals.Side.{Side}
-use Rattle.lint.specs.declared.refusals.Side.the-variants.{Certificate, Issuer}
-use Rattle.lint.specs.declared.refusals.Refusal.{Refusal}
-use Rattle.lint.specs.declared.refusals.Refusal.the-variants.{CertificateLength, IssuerLength, UnknownProfile, Unsound, Unordered, NotCertificate, NoRoom, NoNumber}
+use Rattle.lint.proofs.Laws.Values.{refusal-tabled}
 use Rattle.lint.specs.declared.linting.Answer.{Answer}
 use Rattle.lint.specs.declared.linting.Answer.the-variants.{Report, Refused}
 use Rattle.reader.specs.declared.finding.Loss.{Loss}
@@ -62,42 +59,18 @@ too-long-long = refl
 
 -- ---- a record's line
 
-number-short : (r : Refusal) → refusalNumber r < 10
-number-short CertificateLength = omega arith
-number-short IssuerLength = omega arith
-number-short UnknownProfile = omega arith
-number-short (Unsound side place) = omega arith
-number-short (Unordered side place) = omega arith
-number-short (NotCertificate side place) = omega arith
-number-short NoRoom = omega arith
-number-short NoNumber = omega arith
-
-side-number-short : (side : Side) → sideNumber side < 10
-side-number-short Certificate = omega arith
-side-number-short Issuer = omega arith
-
-side-short : (r : Refusal) → sideOf r < 10
-side-short CertificateLength = omega arith
-side-short IssuerLength = omega arith
-side-short UnknownProfile = omega arith
-side-short (Unsound side place) = side-number-short side
-side-short (Unordered side place) = side-number-short side
-side-short (NotCertificate side place) = side-number-short side
-side-short NoRoom = omega arith
-side-short NoNumber = omega arith
-
 -- the number in an answer: how many findings, or a refusal's place
 abbrev pub numberIn : Answer → ℕ
 numberIn (Report count) = count
-numberIn (Refused r) = placeOf r
+numberIn (Refused r) = refusalValues r .place
 
 answer-long : (a : Answer) → numberIn a < 2 ^ 64 → length (answerText a) ≤ 41
 unfolding refusalText word
 answer-long (Report count) h = simp length-append (omega (arith, wide-long count h))
 answer-long (Refused r) h =
-    let a = decimal-long (refusalNumber r) 1 (number-short r) (omega arith) in
-    let b = decimal-long (sideOf r) 1 (side-short r) (omega arith) in
-    simp length-append (omega (arith, a, b, wide-long (placeOf r) h))
+    let a = decimal-long (refusalValues r .number) 1 (omega (arith, refusal-tabled r .number)) (omega arith) in
+    let b = decimal-long (refusalValues r .side) 1 (omega (arith, refusal-tabled r .side)) (omega arith) in
+    simp length-append (omega (arith, a, b, wide-long (refusalValues r .place) h))
 
 pub record-long : (r : Record) → r .number < 2 ^ 64 → r .profile < 256 → numberIn (r .answer) < 2 ^ 64 → length (recordLine r) ≤ 81
 unfolding recordLine word

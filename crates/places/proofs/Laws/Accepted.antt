@@ -13,10 +13,12 @@ use Rattle.asn.specs.Answers.{certificateVerdict}
 use Rattle.asn.specs.declared.fitting.Verdict.{Verdict}
 use Rattle.profiles.specs.declared.fields.Profile.{Profile}
 use Rattle.lint.specs.Judging.{bySoundness, sideJudgement, orElse, bothSides, admissionOf, onceAdmitted, judgementOf}
-use Rattle.lint.specs.declared.refusals.Refusal.{Refusal}
-use Rattle.lint.specs.declared.refusals.Side.the-variants.{Certificate}
+use Rattle.lint.specs.declared.reasons.Refusal.{Refusal}
+use Rattle.lint.specs.declared.reasons.Side.the-variants.{Certificate}
+use Rattle.lint.specs.declared.judging.Admission.{Admission}
 use Rattle.lint.specs.declared.judging.Judgement.{Judgement}
 use Rattle.lint.specs.declared.judging.Judgement.the-variants.{Accepted, Refused}
+use Rattle.lint.specs.declared.judging.Admission.the-variants as Admissions
 
 refused : (r : Refusal) (p : Profile) → Refused r ≡ Accepted p → ⊥
 refused r p e =
@@ -30,10 +32,10 @@ module _ (p : Profile) where
   side-sound q (Unsound place) v other e = absurd (refused _ p e)
   side-sound q (Unordered place) v other e = absurd (refused _ p e)
 
-  once-sound : (admission : Judgement) (s issuer : List ℕ) → onceAdmitted admission s issuer ≡ Accepted p → derSoundness s ≡ Sound
+  once-sound : (admission : Admission) (s issuer : List ℕ) → onceAdmitted admission s issuer ≡ Accepted p → derSoundness s ≡ Sound
   unfolding bothSides sideJudgement
-  once-sound (Refused r) s issuer e = absurd (refused r p e)
-  once-sound (Accepted q) s issuer e = side-sound q (derSoundness s) (certificateVerdict s) _ e
+  once-sound (Admissions.Refused r) s issuer e = absurd (refused _ p e)
+  once-sound (Admissions.Admitted q) s issuer e = side-sound q (derSoundness s) (certificateVerdict s) _ e
 
   pub accepted-sound : (s issuer : List ℕ) (profile : ℕ) → judgementOf s issuer profile ≡ Accepted p → derSoundness s ≡ Sound
   unfolding judgementOf

@@ -16,7 +16,7 @@ use Rattle.rules.specs.Rules.{findings}
 use Rattle.rules.proofs.Laws.Findings.{findings-elements}
 use Rattle.lint.specs.Judging.{judgementOf}
 use Rattle.lint.specs.Answers.{answerTo, answerBy, roomBy, answerOf, roomOf}
-use Rattle.lint.specs.declared.refusals.Refusal.the-variants.{NoRoom}
+use Rattle.lint.specs.declared.reasons.Refusal.the-variants.{NoRoom}
 use Rattle.lint.specs.declared.judging.Judgement.{Judgement}
 use Rattle.lint.specs.declared.linting.Answer.the-variants.{Report, Refused}
 use Rattle.lint.proofs.Laws.Accepted.{accepted-fits}

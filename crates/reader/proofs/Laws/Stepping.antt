@@ -4,11 +4,12 @@
 --     desk-linted                          the linter's answer to the parts of a record on the desk is its answer to the record
 --     clear-long                           how long the desk is
 --     desk-record, desk-cut, desk-enough   the data of a record that starts at a block, gathered on the desk
+--     linted, stepped                      what is told has the paper's values
 --     step-record, step-lost, step-end     a step, by what is found
 -- Assumes nothing.
 use mathlib.Core.Path.{_≡_, refl, ap, ap₂, _∙_}
 use mathlib.Core.Bool.{Bool, true, false, cond}
-use mathlib.Core.List.{List, _++_}
+use mathlib.Core.List.{List, [], _∷_, _++_}
 use Prim.Native.Nat.{ℕ, _+_, _-_, _*_, _≤_}
 use native.Mathlib.Omega.{arith}
 use lib.ListN.{length, take, drop, replicate, length-append, length-replicate, List·getD-append}
@@ -16,10 +17,11 @@ use lib.Seq.{take-add, take-take, take-append-le, drop-at, getD-take, length-tak
 use lib.Dec.{ltb}
 use borrow.Author.Tests.{lt-ltb}
 use Rattle.reader.specs.Runs.{from, starts, dataFrom, recordFrom}
-use Rattle.reader.specs.Events.{eventIf}
+use Rattle.reader.specs.Events.{Event, record-at, lost-at, eventIf}
 use Rattle.reader.specs.Finding.{foundIf, foundAt}
 use Rattle.reader.specs.Taking.{deskWith}
-use Rattle.reader.specs.Stepping.{lintedRoom, itemOf, roomAfter, itemAt, roomAt, Linted, Stepped}
+use Rattle.reader.specs.Stepping.{lintedRecord, lintedRoom, itemOf, roomAfter, eventAt, itemAt, roomAt, Linted, Stepped}
+use Rattle.reader.specs.Stepping.{recordValues, itemValues, eventValues, valuesAt}
 use Rattle.reader.specs.declared.finding.Loss.{Loss}
 use Rattle.reader.specs.declared.finding.Found.{Found}
 use Rattle.reader.specs.declared.stepping.Record.{Record}
@@ -27,8 +29,10 @@ use Rattle.reader.specs.declared.stepping.Item.{Item}
 use Rattle.octets.specs.Octets.{octetAt}
 use Rattle.octets.specs.Numbers.{pairAt}
 use Rattle.blocks.specs.Record.{parts, profileIn, certificateLength, certificateOctets, issuerOctets}
+use Rattle.lint.specs.Refusals.{answerValues}
 use Rattle.lint.specs.Answers.{Answered}
 use Rattle.lint.specs.declared.linting.Answer.{Answer}
+use Rattle.lint.proofs.Laws.Values.{lint-values}
 use Rattle.reader.proofs.Laws.Places.{data-length}
 use Rattle.reader.proofs.Laws.Found.{Start}
 use Rattle.reader.proofs.Laws.Gathering.{desk-with}
@@ -41,6 +45,32 @@ drop-take m n l h k =
     ap (λ (i : ℕ). drop m (take i l)) e
     ∙ ap (λ (t : List ℕ). drop m t) (take-add m (n - m) l)
     ∙ drop-at (take m l) (take (n - m) (drop m l)) m (length-take-le m l k)
+
+-- ---- the paper's values
+
+record-values : (number : ℕ) (p room : List ℕ) → answerValues (lintedRecord number p room .answer) ≡ recordValues p room
+unfolding recordValues
+record-values number p room = lint-values (certificateOctets p) (issuerOctets p) (profileIn p) room
+
+linted : {number : ℕ} {p room : List ℕ} {r : Record} {last : List ℕ} → r ≡ lintedRecord number p room → last ≡ lintedRoom p room → Linted number p room r last
+linted {number} {p} {room} e b = record { told = e; values = ap (λ (r : Record). answerValues (r .answer)) e ∙ record-values number p room; bytes = b }
+
+event-values : (room : List ℕ) (e : Event) → itemValues (itemOf room e) ≡ eventValues room e
+event-values room (record-at position number p) = ap (λ v. v ∷ []) (record-values number p room)
+event-values room (lost-at position loss) = refl
+
+item-values : (d : List ℕ) (i : ℕ) (room : List ℕ) → itemValues (itemAt d i room) ≡ valuesAt d i room
+unfolding itemAt valuesAt
+item-values d i room = go (ltb (512 * i) (length d))
+  where
+    go : (t : Bool) → itemValues (cond t (itemOf room (eventAt d i)) Items.End) ≡ cond t (eventValues room (eventAt d i)) []
+    go true = event-values room (eventAt d i)
+    go false = refl
+
+stepped : {d : List ℕ} {i : ℕ} {room : List ℕ} {r : Item} {last : List ℕ} → r ≡ itemAt d i room → last ≡ roomAt d i room → Stepped d i room r last
+stepped {d} {i} {room} e b = record { told = e; values = ap itemValues e ∙ item-values d i room; bytes = b }
+
+-- ---- the desk
 
 pub cut-on-desk : (desk : List ℕ) (n : ℕ) → 3 ≤ n → certificateLength (take n desk) ≡ pairAt desk 1
 cut-on-desk desk n h = ap₂ (λ (a b : ℕ). 256 * a + b) (getD-take n desk 1 0 (omega arith)) (getD-take n desk 2 0 (omega arith))
@@ -74,12 +104,10 @@ module _ (desk : List ℕ) (n cut : ℕ) (e : cut ≡ 3 + pairAt desk 1) (h : cu
       → Linted number p room (record { number = number; profile = profile; length = n; answer = a }) last
   unfolding lintedRoom
   desk-linted number profile room last a q l =
-      record {
-        told =
-            rw (length-take-le n desk k, on-profile, on-certificate, on-issuer, ← q)
-            (ap (λ (x : Answer). record { number = number; profile = profile; length = n; answer = x }) (l .told));
-        bytes = rw (on-profile, on-certificate, on-issuer, ← q) (l .bytes);
-      }
+      linted
+      (rw (length-take-le n desk k, on-profile, on-certificate, on-issuer, ← q)
+      (ap (λ (x : Answer). record { number = number; profile = profile; length = n; answer = x }) (l .told)))
+      (rw (on-profile, on-certificate, on-issuer, ← q) (l .bytes))
 
 -- the desk before anything lies on it
 pub clear-long : length {A = ℕ} (replicate 16566 0) ≡ 16566
@@ -124,10 +152,8 @@ module _ (d : List ℕ) (i : ℕ) (room : List ℕ) where
       → Stepped d i room (Items.Record r) last
   unfolding itemAt roomAt
   step-record number n r last start l =
-      record {
-        told = rw (lt-ltb _ _ (start .inside), start .begins, ← start .number-is) (ap Items.Record (l .told));
-        bytes = rw (lt-ltb _ _ (start .inside), start .begins) (l .bytes);
-      }
+      stepped (rw (lt-ltb _ _ (start .inside), start .begins, ← start .number-is) (ap Items.Record (l .told)))
+      (rw (lt-ltb _ _ (start .inside), start .begins) (l .bytes))
 
   -- by whether the deck goes on, and whether a run starts
   abbrev found-by : Bool → Bool → Found
@@ -153,10 +179,10 @@ module _ (d : List ℕ) (i : ℕ) (room : List ℕ) where
   unfolding foundAt itemAt roomAt
   step-lost loss f =
       let both = by-lost loss (ltb (512 * i) (length d)) (starts (from d i)) f in
-      record { told = both .0; bytes = both .1 }
+      stepped (both .0) (both .1)
 
   pub step-end : foundAt d i ≡ Founds.End → Stepped d i room Items.End room
   unfolding foundAt itemAt roomAt
   step-end f =
       let both = by-end (ltb (512 * i) (length d)) (starts (from d i)) f in
-      record { told = both .0; bytes = both .1 }
+      stepped (both .0) (both .1)

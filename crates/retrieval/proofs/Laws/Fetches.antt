@@ -21,8 +21,8 @@ use Rattle.retrieval.specs.Fetches.{FetchedFrom, Fetches, nothing, anoth
 use Rattle.retrieval.specs.declared.Fetched.{Fetched}
 use Rattle.blocks.specs.Record.{parts, certificateLength, certificateOctets, issuerOctets}
 use Rattle.blocks.proofs.Laws.Logic.{true-or-false}
-use Rattle.lint.specs.declared.refusals.Side.{Side}
-use Rattle.lint.specs.declared.refusals.Side.the-variants.{Certificate, Issuer}
+use Rattle.lint.specs.declared.reasons.Side.{Side}
+use Rattle.lint.specs.declared.reasons.Side.the-variants.{Certificate, Issuer}
 use Rattle.reader.specs.Runs.{from, recordFrom}
 use Rattle.reader.specs.Events.{Event, record-at, events, eventsFrom}
 use Rattle.reader.specs.Finding.{foundAt}

@@ -19,7 +19,7 @@ use Rattle.retrieval.specs.declared.Fetched.{Fetched}
 use Rattle.octets.specs.Copying.{copied}
 use Rattle.blocks.specs.Record.{parts, certificateLength, certificateOctets, issuerOctets}
 use Rattle.blocks.proofs.Laws.Logic.{below-or-not}
-use Rattle.lint.specs.declared.refusals.Side.{Side}
+use Rattle.lint.specs.declared.reasons.Side.{Side}
 use Rattle.reader.specs.Runs.{from, firstBlock, recordFrom}
 use Rattle.reader.specs.Events.{Event, record-at, lost-at, lossOf, eventsFrom}
 use Rattle.reader.specs.Finding.{foundAt, blocksIn}

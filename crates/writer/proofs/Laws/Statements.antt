@@ -15,20 +15,21 @@ use native.Mathlib.Omega.{arith}
 use lib.ListN.{length, take, drop, length-append, length-drop}
 use lib.Seq.{take-at, drop-at}
 use borrow.Author.Tests.{eq-eqb, ne-eqb, le-leb, lt-leb}
+use Rattle.writer.specs.Cutting.{blocksOf, endToEnd}
+use Rattle.writer.specs.Answers.{writeAnswer, writeRoom, Written}
+use Rattle.writer.specs.declared.reasons.NotWritten.{NotWritten}
+use Rattle.writer.specs.declared.reasons.NotWritten.the-variants.{Inadmissible, NoNumber, NoRoom}
+use Rattle.writer.specs.declared.writing.Placing.{Placing}
+use Rattle.writer.specs.declared.writing.Placing.the-variants.{Blocks, Refused}
 use Rattle.profiles.specs.declared.fields.Profile.{Profile}
 use Rattle.lint.specs.Judging.{admissionOf}
-use Rattle.lint.specs.declared.refusals.Refusal.{Refusal}
-use Rattle.lint.specs.declared.refusals.Refusal.the-variants.{NoNumber, NoRoom}
-use Rattle.lint.specs.declared.judging.Judgement.the-variants as Judgements
 use Rattle.lint.proofs.Laws.Accepted.{admitted-certificate, admitted-issuer}
 use Rattle.blocks.specs.Record.{recordOf, parts}
 use Rattle.blocks.proofs.Laws.Record.{record-length}
-use Rattle.writer.specs.Cutting.{blocksOf, endToEnd}
-use Rattle.writer.specs.Answers.{writeAnswer, writeRoom, Written}
-use Rattle.writer.specs.declared.writing.Placing.{Placing}
-use Rattle.writer.specs.declared.writing.Placing.the-variants.{Blocks, Refused}
 use Rattle.writer.proofs.Laws.Cutting.{blocks-length}
 use Rattle.writer.proofs.Laws.Answers.{taken-only}
+use Rattle.lint.specs.declared.reasons.Inadmissible as Reason
+use Rattle.lint.specs.declared.judging.Admission.the-variants as Admissions
 
 -- ---- S11
 
@@ -39,12 +40,12 @@ one-answer a b = (a .told ∙ sym (b .told), a .bytes ∙ sym (b .bytes))
 module _ (number profile : ℕ) (certificate issuer room : List ℕ) where
   -- ---- the order of refusals: "the first that applies"
 
-  pub refused-first : (r : Refusal) → admissionOf (length certificate) (length issuer) profile ≡ Judgements.Refused r
-      → writeAnswer number profile certificate issuer room ≡ Refused r
+  pub refused-first : (r : Reason.Inadmissible) → admissionOf (length certificate) (length issuer) profile ≡ Admissions.Refused r
+      → writeAnswer number profile certificate issuer room ≡ Refused (Inadmissible r)
   unfolding writeAnswer
   refused-first r e = rw e
 
-  module _ (p : Profile) (e : admissionOf (length certificate) (length issuer) profile ≡ Judgements.Accepted p) where
+  module _ (p : Profile) (e : admissionOf (length certificate) (length issuer) profile ≡ Admissions.Admitted p) where
     pub refused-number : number ≡ 0 → writeAnswer number profile certificate issuer room ≡ Refused NoNumber
     unfolding writeAnswer
     refused-number z = rw (e, eq-eqb number 0 z)
@@ -63,7 +64,7 @@ module _ (number profile : ℕ) (certificate issuer room : List ℕ) where
   -- ---- the room
 
   -- "lent memory unchanged"
-  pub room-kept : (r : Refusal) → writeAnswer number profile certificate issuer room ≡ Refused r
+  pub room-kept : (r : NotWritten) → writeAnswer number profile certificate issuer room ≡ Refused r
       → writeRoom number profile certificate issuer room ≡ room
   unfolding writeRoom
   room-kept r e = rw e

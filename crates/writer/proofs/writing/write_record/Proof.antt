@@ -4,10 +4,10 @@ use Prim.Native.Nat.{_≤_}
 use native.Mathlib.Omega.{arith}
 use lib.ListN.{length}
 use borrow.Author.Needs.{needs}
+use Rattle.writer.specs.declared.reasons.NotWritten.the-variants.{NoNumber, NoRoom}
 use Rattle.writer.specs.declared.writing.Placing.the-variants.{Blocks, Refused}
 use Rattle.lint.specs.Judging.{admissionOf}
-use Rattle.lint.specs.declared.refusals.Refusal.the-variants.{NoNumber, NoRoom}
-use Rattle.lint.specs.declared.judging.Judgement.the-variants.{Accepted}
+use Rattle.lint.specs.declared.judging.Admission.the-variants.{Admitted}
 use Rattle.lint.proofs.Laws.Accepted.{admitted-certificate, admitted-issuer}
 use Rattle.blocks.specs.Record.{recordOf, parts}
 use Rattle.blocks.proofs.Laws.Record.{record-length}
@@ -22,7 +22,7 @@ module _ (c : tie.After-enum-told) where
   began = c .before .before .before .before .before .before
 
   admitted : admissionOf (length (began .args .certificate .now)) (length (began .args .issuer .now)) (began .args .profile)
-      ≡ Accepted (c .enum-told .given .0 .0)
+      ≡ Admitted (c .enum-told .given .0 .0)
   admitted = sym (c .before .before .admit .ensures) ∙ c .enum-told .given .1
 
   short-certificate : length (began .args .certificate .now) ≤ 8192

@@ -1,0 +1,2 @@
+-- The paper's numbers and values.
+pub mod Table

@@ -1,0 +1,63 @@
+-- "Refusals and their order" (document 01): a name for each number of the table, and the values of an answer. Every layer that refuses has an enum of
+-- its own, and takes its numbers from here.
+use mathlib.Core.Bool.{Bool, cond}
+use Prim.Native.Nat.{ℕ}
+use Rattle.refusals.specs.declared.table.Values.{Values}
+
+-- ---- "No.", each with its row: "Given exactly when"; "Side, place"
+
+-- "certificate has 0 or over 8,192 bytes"; "1, 0"
+abbrev pub wrongCertificateLength : ℕ
+wrongCertificateLength = 1
+
+-- "issuer has 0 or over 8,192 bytes"; "2, 0"
+abbrev pub wrongIssuerLength : ℕ
+wrongIssuerLength = 2
+
+-- "profile not 1 to 3"; "0, 0"
+abbrev pub unknownProfile : ℕ
+unknownProfile = 3
+
+-- "not sound DER"; "its side, first faulty element"
+abbrev pub notSoundDer : ℕ
+notSoundDer = 4
+
+-- "a SET out of order"; "its side, first such SET"
+abbrev pub setOutOfOrder : ℕ
+setOutOfOrder = 5
+
+-- "not a certificate"; "its side, see below"
+abbrev pub notCertificate : ℕ
+notCertificate = 6
+
+-- "record number 0 (writer only)"; "0, 0"
+abbrev pub recordNumberZero : ℕ
+recordNumberZero = 8
+
+-- "too little room"; "0, 0"
+abbrev pub tooLittleRoom : ℕ
+tooLittleRoom = 7
+
+-- ---- "side (1 certificate, 2 issuer, 0 neither)"
+
+abbrev pub onNeither : ℕ
+onNeither = 0
+
+abbrev pub onCertificate : ℕ
+onCertificate = 1
+
+abbrev pub onIssuer : ℕ
+onIssuer = 2
+
+-- ---- "Answer: number, side, place, zero findings"
+
+abbrev pub refused : ℕ → ℕ → ℕ → Values
+refused number side place = record { number = number; side = side; place = place; count = 0 }
+
+-- no refusal, but so many findings of the linter or blocks of the writer
+abbrev pub unrefused : ℕ → Values
+unrefused count = record { number = 0; side = onNeither; place = 0; count = count }
+
+-- "The first that applies, top to bottom": a row of the table where it applies, else what the rows below it give
+abbrev pub row : Bool → Values → Values → Values
+row applies values below = cond applies values below
