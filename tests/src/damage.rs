@@ -303,3 +303,26 @@ pub fn push_torn(deck: &mut Deck, record: &Record, kept: usize) {
         deck.push_lost(block, if block.len() < BLOCK { Loss::Short } else { Loss::Stray });
     }
 }
+
+/// Adds a block that belongs to no record: one that fails its check, a sound part 1 without a part 0, or less than a
+/// block, behind which nothing may come.
+pub fn push_lost_block(deck: &mut Deck, loss: Loss) {
+    match loss {
+        Loss::Unsound => deck.push_lost(&[0; BLOCK], loss),
+        Loss::Stray => deck.push_lost(&block(7, 600, 1, &[]), loss),
+        Loss::Short => deck.push_lost(&[0; BLOCK - 1], loss),
+    }
+}
+
+/// A deck of whole blocks with lost ones behind it, unsound and stray by turns, and a short one if one is needed to reach
+/// this length.
+pub fn filled_up(mut deck: Deck, octets: usize) -> Deck {
+    let missing = octets - deck.octets.len();
+    for turn in 0..missing / BLOCK {
+        push_lost_block(&mut deck, if turn % 2 == 0 { Loss::Unsound } else { Loss::Stray });
+    }
+    if missing % BLOCK > 0 {
+        deck.push_lost(&vec![0xFF; missing % BLOCK], Loss::Short);
+    }
+    deck
+}

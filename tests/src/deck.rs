@@ -160,7 +160,7 @@ pub fn listing_of(events: &[Event], blocks: usize) -> String {
         match event {
             Event::Record { number, profile, answer, .. } => {
                 records += 1;
-                text += &format!("record {number} profile {profile} {}", answer_lines(answer));
+                text += &record_lines(*number, *profile, answer);
             }
             Event::Lost { block, loss } => {
                 lost += 1;
@@ -169,6 +169,11 @@ pub fn listing_of(events: &[Event], blocks: usize) -> String {
         }
     }
     text + &format!("records {records} blocks {blocks} lost {lost}\n")
+}
+
+/// A record's own line and those of its findings.
+pub fn record_lines(number: u32, profile: u8, answer: &Answer) -> String {
+    format!("record {number} profile {profile} {}", answer_lines(answer))
 }
 
 fn answer_lines(answer: &Answer) -> String {

@@ -13,6 +13,7 @@
 //! | `times` | times at every edge, and whether they are times |
 //! | `mutation`, `mutants`, `trees` | chance changes and chance trees |
 //! | `records`, `deck`, `damage` | records of every kind, decks with every kind of damage, and the listing that is due |
+//! | `dense` | records with as many findings as fit, and records whose lines have a wanted length together |
 //! | `sample` | the sample deck that ships with the repository |
 //! | `outside` | certificates that nobody here made |
 //! | `verdicts` | octets with their verdicts of soundness, by hand |
@@ -22,7 +23,7 @@
 //! | `answers` | a program that answers frames with lines, held to the lines that are expected |
 //! | `outcome`, `queue` | what the proved linter, writer and reader write, and requests that wait for them |
 //! | `calls` | calls of the linter, the proved one held to the whole answer that is due |
-//! | `linters`, `writers`, `readers` | the reference and the proved one, both held to what is due |
+//! | `linters`, `writers`, `readers`, `listers` | the reference and the proved one, both held to what is due |
 //! | `random`, `amount`, `hex` | small helpers |
 //!
 //! `cargo test -- --nocapture` shows how many cases of each kind were compared and the table of
@@ -39,6 +40,7 @@ pub mod commands;
 pub mod correct;
 pub mod damage;
 pub mod deck;
+pub mod dense;
 pub mod element;
 pub mod faults;
 pub mod general_names;
@@ -48,6 +50,7 @@ pub mod holding;
 pub mod invariants;
 pub mod keys;
 pub mod linters;
+pub mod listers;
 pub mod malformed;
 pub mod mutants;
 pub mod mutation;

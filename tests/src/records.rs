@@ -45,12 +45,13 @@ pub fn linted(random: &mut Random) -> Case {
 }
 
 pub fn tiny(random: &mut Random) -> Case {
-    Case {
-        profile: *random.choose(ALL),
-        certificate: vec![0x30, 0],
-        issuer: vec![0x30, 0],
-        expected: refused(6, 1, 0),
-    }
+    tiny_of(*random.choose(ALL))
+}
+
+/// A record of one block and a profile that there is.
+pub fn tiny_of(profile: u8) -> Case {
+    let empty = vec![0x30, 0];
+    Case { profile, certificate: empty.clone(), issuer: empty, expected: refused(6, 1, 0) }
 }
 
 /// Two elements of the most octets that are allowed: a record of 33 blocks.

@@ -7,7 +7,8 @@ use comparison::damage::*;
 use comparison::deck::*;
 use comparison::element::{Element, LengthForm};
 use comparison::hex;
-use comparison::holding::{Comparison, AMPLE_ROOM};
+use comparison::holding::Comparison;
+use comparison::listers::{listing_due, Listers};
 use comparison::queue::hold_met;
 use comparison::random::Random;
 use comparison::readers::{some_room, Readers, MOST_OCTETS};
@@ -33,11 +34,7 @@ const EVERY_STEP: [&str; 10] = [
 const CERTIFICATES_A_DECK: usize = 20;
 
 fn hold_listing(comparison: &mut Comparison, what: &str, deck: &Deck) {
-    let expected = if deck.octets.len() > MOST_OCTETS {
-        "deck too long\n".to_string()
-    } else {
-        listing_of(&deck.events(AMPLE_ROOM), deck.blocks())
-    };
+    let expected = listing_due(deck);
     let answered = String::from_utf8(listing(&deck.octets)).expect("a listing is ASCII");
     comparison.hold(what, &expected, &answered, || format!("deck {}", hex::text(&deck.octets)));
 }
@@ -207,7 +204,7 @@ fn records_that_just_fill_their_blocks() {
 
 #[test]
 fn the_longest_deck_that_the_program_takes() {
-    let mut comparison = Comparison::of("listings of decks around the most octets taken");
+    let mut listers = Listers::of("decks around the most octets taken");
     let mut random = Random::for_purpose("longest decks");
     for octets in [0, 1, BLOCK, MOST_OCTETS - 1, MOST_OCTETS, MOST_OCTETS + 1, MOST_OCTETS + BLOCK] {
         let mut deck = Deck::default();
@@ -220,21 +217,20 @@ fn the_longest_deck_that_the_program_takes() {
         if rest > 0 {
             deck.push_lost(&vec![0x30; rest], Loss::Short);
         }
-        hold_listing(&mut comparison, &format!("{octets} octets"), &deck);
+        listers.hold(&format!("{octets} octets"), &deck);
     }
-    comparison.finish();
+    listers.finish();
 }
 
 #[test]
 fn an_unsound_certificate_is_listed_with_its_place() {
-    let mut comparison = Comparison::of("listings of refused records");
+    let mut listers = Listers::of("refused records");
     let inner = Element::integer(&[1]).with_length_form(LengthForm::Long(1));
     let certificate = Element::sequence(vec![Element::null(), inner]).octets();
     let case = Case { profile: 3, certificate, issuer: vec![0x30, 0], expected: refused(4, 1, 4) };
     let mut deck = Deck::default();
     deck.push_record(&Record { number: 4_000_000_000, case });
-    hold_listing(&mut comparison, "refused", &deck);
-    let text = String::from_utf8(listing(&deck.octets)).expect("a listing is ASCII");
-    assert_eq!(text, "record 4000000000 profile 3 refused 4 side 1 at 4\nrecords 1 blocks 1 lost 0\n");
-    comparison.finish();
+    let listing = listers.hold("refused", &deck);
+    assert_eq!(listing, "record 4000000000 profile 3 refused 4 side 1 at 4\nrecords 1 blocks 1 lost 0\n");
+    listers.finish();
 }

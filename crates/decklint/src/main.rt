@@ -1,4 +1,5 @@
-// Lists the deck on standard input (document 01, "The deck"): prints what `printed` of the crate `listing` says of it.
+// Lists the deck on standard input (document 01, "The deck"): prints what `printed` of the crate `listing` says of it
+// (`writes-printed` there: whoever writes one fill after the other, until all is put, writes that).
 //
 // Nothing is written before the whole deck has been read, so where a read fails standard output stays empty. Where a write
 // fails the program ends there, and the listing lacks its last line. Either is said on standard error, by a line. An
@@ -6,114 +7,56 @@
 // signal ends it, as a write to a pipe that nobody reads does; `bin/decklint` makes a status of what was said.
 use libc::STDERR_FILENO;
 use libc::STDIN_FILENO;
-use libc::STDOUT_FILENO;
+use streams::Loaded;
 ghost use mathlib.Core.Path.{_≡_};
 ghost use Prim.Native.Nat.{_≤_};
 ghost use lib.ListN.{length};
+ghost use Rattle.listing.specs.Filling.{itemSpace};
 
-// "It lends the linter 65,536 octets of room and takes as much of deck".
-const MOST: usize = 65536;
-
-// One octet more tells a deck that is too long.
-const SPACE: usize = 65537;
-
-// So many octets hold all lines of any item whose findings fit in the linter's room (`item-whole` of the crate
-// `listing`), and the last line too.
-const ITEM: usize = 327741;
-
-// Lines wait here to be written, so that there are few writes.
-const WAITING: usize = 393216;
-
-// Room for a deck, and for lines that wait. A proof that has so long an array before it goes through all of it, so the
-// arrays are made here, and `list_input` knows their lengths alone.
-fn deck_space() -> [u8; SPACE]
+// Space for a deck, and for a part of its listing. A proof that has so long an array before it goes through all of it, so
+// the arrays are made here, and `list_input` knows their lengths alone.
+fn deck_space() -> [u8; listing::DECK_SPACE]
     ensures { λ r. ⌜ 65537 ≡ length r ⌝ }
 {
-    [0; SPACE]
+    [0; listing::DECK_SPACE]
 }
 
-fn line_space() -> [u8; WAITING]
+fn listing_space() -> [u8; listing::LISTING_SPACE]
     ensures { λ r. ⌜ 393216 ≡ length r ⌝ }
 {
-    [0; WAITING]
+    [0; listing::LISTING_SPACE]
 }
 
-// How many octets were read, and whether a read failed after them.
-struct Input {
-    n: usize,
-    failed: bool,
+fn write(octets: &[u8]) -> bool {
+    streams::write_out(octets, b"decklint: standard output")
 }
 
-// Reads to the end of the input, or until the space is full.
-fn read_all(space: &mut [u8]) -> Input
-    ensures { λ r. ⌜ r .n ≤ length (now (space .exit)) ⌝ }
+// A buffer in which any item has space is filled and written until all is put.
+fn list_deck(deck: &[u8], out: &mut [u8])
+    requires { ⌜ itemSpace ≤ length (now out) ⌝ }
 {
-    let mut n: usize = 0;
-    while n < space.len() {
-        let got = libc::read(STDIN_FILENO, &mut space[n..]);
-        let more = io::count(got, &space[n..]);
-        if more == 0 {
-            return Input {
-                n: n,
-                failed: got < 0,
-            };
-        }
-        n += more;
-    }
-    Input {
-        n: n,
-        failed: false,
-    }
-}
-
-// Writes the first n octets, and answers whether it could.
-fn write(out: &[u8], n: usize) -> bool
-    requires { ⌜ n ≤ length (now out) ⌝ }
-{
-    let written = io::write_all(STDOUT_FILENO, &out[..n]);
-    if !written {
-        os::fail(b"decklint: standard output");
-    }
-    written
-}
-
-fn list_deck(deck: &[u8], out: &mut [u8]) {
-    let mut room = io::large_buffer();
-    let mut position: usize = 0;
-    let mut n: usize = 0;
+    let mut progress = listing::start();
     loop {
-        let step = listing::next_lines(out, n, deck, position, &mut room);
-        n = step.end;
-        if step.passed == 0 {
-            break;
+        let filling = listing::fill_listing(out, deck, progress);
+        let end = filling.end;
+        if !write(&out[..end]) {
+            return;
         }
-        position += step.passed;
-        if out.len() - n < ITEM {
-            if !write(out, n) {
-                return;
-            }
-            n = 0;
+        if filling.done {
+            return;
         }
+        progress = filling.next;
     }
-    let end = listing::total_line(out, n, reader::tally(deck), reader::block_count(deck));
-    write(out, end);
 }
 
 // Lists the deck on standard input.
 fn list_input() {
     let mut space = deck_space();
-    let mut out = line_space();
-    let input = read_all(&mut space);
-    if input.failed {
-        os::fail(b"decklint: standard input");
-        return;
-    }
-    let n = input.n;
-    if n <= MOST {
-        list_deck(&space[..n], &mut out);
-    } else {
-        let end = listing::too_long(&mut out, 0);
-        write(&out, end);
+    let mut out = listing_space();
+    let loaded = streams::read_all(STDIN_FILENO, &mut space);
+    match loaded {
+        Loaded::Octets(n) => list_deck(&space[..n], &mut out),
+        Loaded::Unreadable => os::fail(b"decklint: standard input"),
     }
 }
 

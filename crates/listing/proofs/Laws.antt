@@ -2,4 +2,7 @@
 pub mod Findings
 pub mod Lines
 pub mod Listing
-pub mod Steps
+pub mod Whole
+pub mod Advancing
+pub mod Filling
+pub mod Printing

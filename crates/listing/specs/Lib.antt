@@ -1,4 +1,4 @@
--- The lines of a deck's listing, all of it, and step by step.
+-- The lines of a deck's listing, all of it, and a bufferful at a time.
 pub mod Lines
 pub mod Listing
-pub mod Steps
+pub mod Filling

@@ -36,15 +36,22 @@ itemLines position (Items.Record r) report = recordLines r report
 itemLines position (Items.Lost loss) report = lostLine position loss
 itemLines position Items.End report = []
 
+abbrev pub handedLines : Handed → List ℕ
+handedLines h = itemLines (h .position) (h .item) (h .report)
+
 -- "by block position": all that is handed over, in its order
 abbrev pub linesOf : List Handed → List ℕ
 linesOf [] = []
-linesOf (h ∷ hs) = itemLines (h .position) (h .item) (h .report) ++ linesOf hs
+linesOf (h ∷ hs) = handedLines h ++ linesOf hs
 
 -- the listing of a deck whose reader lends the linter the room
 unfoldable pub listingOf : List ℕ → List ℕ → List ℕ
 listingOf deck room = linesOf (allHandedOver room (events deck)) ++ totalLine (tallyOf deck) (length (blocks deck))
 
--- "It lends the linter 65,536 octets of room and takes as much of deck; past that it prints only "deck too long""
+-- "It lends the linter 65,536 octets of room"
+unfoldable pub programRoom : List ℕ
+programRoom = replicate 65536 0
+
+-- "and takes as much of deck; past that it prints only "deck too long""
 unfoldable pub printed : List ℕ → List ℕ
-printed deck = cond (leb (length deck) 65536) (listingOf deck (replicate 65536 0)) tooLongLine
+printed deck = cond (leb (length deck) 65536) (listingOf deck programRoom) tooLongLine

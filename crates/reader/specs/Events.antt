@@ -7,7 +7,7 @@ use lib.Dec.{ltb}
 use lib.ListN.{length}
 use Rattle.blocks.specs.Block.{sound, recordNumber, recordLength}
 use Rattle.blocks.specs.Record.{parts}
-use Rattle.reader.specs.Runs.{blocks, firstBlock, starts, recordFrom}
+use Rattle.reader.specs.Runs.{blocks, from, firstBlock, starts, recordFrom}
 use Rattle.reader.specs.declared.finding.Loss.{Loss}
 use Rattle.reader.specs.declared.finding.Loss.the-variants.{Short, Unsound, Stray}
 
@@ -45,3 +45,7 @@ reading (suc skip) position (b ∷ bs) = reading skip (suc position) bs
 -- in the order of the blocks
 unfoldable pub events : List ℕ → List Event
 events deck = reading 0 0 (blocks deck)
+
+-- those from a position on, where no record stands that began before it
+abbrev pub eventsFrom : List ℕ → ℕ → List Event
+eventsFrom deck position = reading 0 position (from deck position)

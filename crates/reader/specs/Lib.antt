@@ -3,6 +3,7 @@ pub mod Runs
 pub mod Events
 pub mod Finding
 pub mod Stepping
+pub mod Taking
 pub mod Counting
 pub mod Exactly
 pub mod Walking

@@ -2,13 +2,13 @@
 use crate::finding::Found;
 use crate::finding::Loss;
 use crate::finding::find;
+use crate::gathering::gather;
 use lint::Answer;
 ghost use mathlib.Core.Path.{_≡_};
-ghost use mathlib.Core.List.{_++_};
-ghost use Prim.Native.Nat.{_+_, _*_, _≤_};
-ghost use lib.ListN.{length, take, drop};
+ghost use Prim.Native.Nat.{_+_, _≤_};
+ghost use lib.ListN.{length, take};
 ghost use Rattle.blocks.specs.Record.{certificateLength};
-ghost use Rattle.reader.specs.Runs.{from, dataFrom, recordFrom};
+ghost use Rattle.reader.specs.Runs.{from, recordFrom};
 ghost use Rattle.reader.specs.Finding.{foundAt};
 ghost use Rattle.reader.specs.declared.finding.Found.the-variants as Found;
 ghost use Rattle.reader.specs.Stepping.{Stepped, Linted, itemBlocks};
@@ -24,18 +24,6 @@ pub enum Item {
     Record(Record),
     Lost(Loss),
     End,
-}
-
-// Copies the data of the k blocks from `position` on to the front of the desk.
-fn gather(deck: &[u8], position: usize, k: usize, desk: &mut [u8])
-    requires { ⌜ (512 * (position + k) ≤ length (now deck)) × (k * 502 ≤ length (now desk)) ⌝ }
-    ensures { λ _. ⌜ now (desk .exit) ≡ dataFrom k (from (now (deck .entry)) position) ++ drop (k * 502) (now (desk .entry)) ⌝ }
-{
-    let mut j = 0;
-    while j < k {
-        octets::copy(deck, 512 * (position + j) + 8, 502, desk, 502 * j);
-        j += 1;
-    }
 }
 
 // The record of n octets at the front of the desk, with the linter's answer.

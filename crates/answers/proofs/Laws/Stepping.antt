@@ -10,9 +10,10 @@ use native.Mathlib.Omega.{arith}
 use lib.ListN.{length}
 use Rattle.answers.specs.Rooms.{roomPast}
 use Rattle.blocks.proofs.Laws.Logic.{below-or-not}
+use Rattle.reader.specs.Events.{eventsFrom}
 use Rattle.reader.specs.Stepping.{itemBlocks, itemAt, roomAt}
 use Rattle.reader.proofs.Laws.Places.{from-nil}
-use Rattle.reader.proofs.Laws.Counts.{eventsFrom, reads-on}
+use Rattle.reader.proofs.Laws.Counts.{reads-on}
 use Rattle.reader.proofs.Laws.Passing.{item-blocks, item-moves}
 use Rattle.reader.proofs.Laws.Walking.{room-is, room-ended}
 

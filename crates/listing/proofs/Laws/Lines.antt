@@ -1,8 +1,7 @@
 -- How long the lines are.
 --     finding-long, record-long, lost-long, total-long, too-long-long     each line, of numbers that the code can hold
 --     findings-long, item-long  all lines of k findings, and of an item that counts k
---     item-fits, item-whole     what the reader hands over in 65,536 octets of room counts no more findings than fit there, so that
---                               327,741 octets hold its lines
+--     item-fits                 what the reader hands over counts no more findings than fit in the room
 -- Assumes nothing.
 use mathlib.Core.Path.{_≡_, refl}
 use mathlib.Core.Bool.{Bool, true, false, cond}
@@ -167,7 +166,3 @@ item-fits deck position room = go (ltb (512 * position) (length deck))
     go : (t : Bool) → width * countIn (cond t (itemOf room (eventAt deck position)) Items.End) ≤ length room
     go true = event-fits room (eventAt deck position)
     go false = omega arith
-
-pub item-whole : (deck : List ℕ) (position : ℕ) (room s : List ℕ) → length room ≤ 65536 → position < 2 ^ 64
-    → Held (itemAt deck position room) → Octets s → length (itemLines position (itemAt deck position room) s) ≤ 327741
-item-whole deck position room s h l k o = omega (arith, item-long position (itemAt deck position room) s l k o, item-fits deck position room)

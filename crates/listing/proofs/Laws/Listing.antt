@@ -1,6 +1,7 @@
 -- What the listing asks, and what it leaves unasked.
 --     room-lines       the lines of an item, read from the room that its step leaves, are those of the report
 --     listing-room     the listing asks nothing of the room but its length
+--     room-program     the program lends 65,536 octets of room
 --     printed-listing, printed-too-long     what is printed: the listing in any room of 65,536 octets, or one line
 --     found-entries    of a record that is accepted, the entries whose lines are listed are its findings
 -- Assumes nothing.
@@ -8,10 +9,10 @@ use mathlib.Core.Path.{_≡_, refl, sym, ap, ap₂, _∙_}
 use mathlib.Core.List.{List, [], _∷_, _++_}
 use mathlib.Core.Bool.{true}
 use Prim.Native.Nat.{ℕ, _≤_, _<_}
-use lib.ListN.{length, replicate, length-replicate}
+use lib.ListN.{length, length-replicate}
 use borrow.Author.Tests.{le-leb, lt-leb}
 use Rattle.listing.specs.Lines.{recordLine, totalLine, tooLongLine}
-use Rattle.listing.specs.Listing.{findingLines, reportedEntries, recordLines, itemLines, linesOf, listingOf, printed}
+use Rattle.listing.specs.Listing.{findingLines, reportedEntries, recordLines, itemLines, linesOf, listingOf, programRoom, printed}
 use Rattle.report.specs.declared.sink.Entry.{Entry}
 use Rattle.report.specs.Answers.{enoughRoom}
 use Rattle.profiles.specs.declared.fields.Profile.{Profile}
@@ -52,9 +53,13 @@ unfolding listingOf
 listing-room deck room other h =
     ap (λ (hs : List Handed). linesOf hs ++ totalLine (tallyOf deck) (length (blocks deck))) (all-handed room other h (events deck))
 
+pub room-program : length programRoom ≡ 65536
+unfolding programRoom
+room-program = length-replicate {A = ℕ} 65536 0
+
 pub printed-listing : (deck room : List ℕ) → length deck ≤ 65536 → length room ≡ 65536 → printed deck ≡ listingOf deck room
 unfolding printed
-printed-listing deck room h l = rw (le-leb (length deck) 65536 h) (listing-room deck (replicate 65536 0) room (length-replicate {A = ℕ} 65536 0 ∙ sym l))
+printed-listing deck room h l = rw (le-leb (length deck) 65536 h) (listing-room deck programRoom room (room-program ∙ sym l))
 
 pub printed-too-long : (deck : List ℕ) → 65536 < length deck → printed deck ≡ tooLongLine
 unfolding printed

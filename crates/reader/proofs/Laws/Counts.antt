@@ -12,7 +12,7 @@ use native.Mathlib.Omega.{arith}
 use lib.ListN.{length, drop}
 use lib.Seq.{drop-drop}
 use Rattle.reader.specs.Runs.{blocks, blockAt, from, firstBlock, starts}
-use Rattle.reader.specs.Events.{Event, eventIf, reading}
+use Rattle.reader.specs.Events.{Event, eventIf, reading, eventsFrom}
 use Rattle.reader.specs.Finding.{foundIf, foundAt, blocksIn}
 use Rattle.reader.specs.Counting.{recordsIn, lostIn}
 use Rattle.reader.specs.declared.finding.Found.{Found}
@@ -23,10 +23,6 @@ use Rattle.blocks.proofs.Laws.Logic.{true-or-false, below-or-not}
 use Rattle.reader.proofs.Laws.Steps.{some-parts, past-record, past-lost}
 use Rattle.reader.proofs.Laws.Places.{from-cons, from-nil, first-is}
 use Rattle.reader.proofs.Laws.Found.{found-by, found-none, found-record, found-lost, run-within}
-
--- the events from a position on
-abbrev pub eventsFrom : List ℕ → ℕ → List Event
-eventsFrom d i = reading 0 i (from d i)
 
 -- how many records and lost blocks a step counts
 abbrev pub recordsPassed : Found → ℕ

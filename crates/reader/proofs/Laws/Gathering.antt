@@ -2,16 +2,23 @@
 --     data-place      where the data of a block stands in the deck
 --     data-snoc       the data of one block more
 --     gathered, gathered-long     it is copied behind that of the blocks before it
+--     desk-with                   where deck and desk have the octets, the data is on the desk
+--     desk-inside, desk-else      the test that decides has passed, or failed
 -- Assumes nothing.
 use mathlib.Core.Path.{_≡_, sym, ap, ap₂, _∙_}
+use mathlib.Core.Bool.{Bool, true, false, _&&_}
 use mathlib.Core.List.{List, _++_, append-assoc, append-nil}
-use Prim.Native.Nat.{ℕ, zero, suc, _+_, _*_, _≤_}
+use Prim.Native.Nat.{ℕ, zero, suc, _+_, _*_, _/_, _≤_}
 use native.Mathlib.Omega.{arith}
+use lib.Dec.{leb}
 use lib.ListN.{length, take, drop, length-append, length-drop}
 use lib.Seq.{take-at, drop-at, take-add, take-take, drop-drop, drop-append-add, length-take-le}
+use borrow.Author.Tests.{leb-true, le-leb}
 use Rattle.reader.specs.Runs.{from, blockAt, dataFrom}
+use Rattle.reader.specs.Taking.{deskWith}
 use Rattle.octets.specs.Copying.{copied}
 use Rattle.octets.proofs.Laws.Copying.{copied-paste}
+use Rattle.octets.proofs.Laws.Tests.{and-l, and-r}
 use Rattle.blocks.specs.Block.{dataOf}
 use Rattle.reader.proofs.Laws.Places.{from-cons, data-length}
 
@@ -70,3 +77,21 @@ module _ (d : List ℕ) (i j : ℕ) (desk₀ desk last : List ℕ) (inside : 512
 
   pub gathered-long : length last ≡ length desk₀
   gathered-long = ap length gathered ∙ simp (length-append, length-drop) (omega (arith, data-length (suc j) d i (omega arith)))
+
+-- ---- all of it, or none
+
+module _ (d : List ℕ) (i k : ℕ) (desk : List ℕ) where
+  pub desk-with : 512 * (i + k) ≤ length d → k * 502 ≤ length desk → deskWith d i k desk ≡ dataFrom k (from d i) ++ drop (k * 502) desk
+  unfolding deskWith
+  desk-with h l = rw (le-leb (i + k) (length d / 512) (omega arith), le-leb k (length desk / 502) (omega arith))
+
+  module _ (a : Bool) (e : a ≡ leb (i + k) (length d / 512)) where
+    pub desk-inside : (a && leb k (length desk / 502)) ≡ true → (512 * (i + k) ≤ length d) × (k * 502 ≤ length desk)
+    desk-inside t =
+        let deck : i + k ≤ length d / 512 = leb-true _ _ (rw e at (and-l a (leb k (length desk / 502)) t)) in
+        let room : k ≤ length desk / 502 = leb-true _ _ (and-r a (leb k (length desk / 502)) t) in
+        (omega arith, omega arith)
+
+    pub desk-else : (a && leb k (length desk / 502)) ≡ false → deskWith d i k desk ≡ desk
+    unfolding deskWith
+    desk-else t = rw (← e, t)

@@ -1,7 +1,9 @@
 -- How far a step goes, by the item that it hands out.
+--     record-long     a record has as many octets as its blocks say
 --     item-blocks     as far as by what is found
 --     item-within     not past the deck's end
 --     item-moves      one block at least, where the deck goes on
+--     item-inside, item-past     the deck goes on exactly where a block is passed
 -- Assumes nothing.
 use mathlib.Core.Path.{_≡_, refl, ap}
 use mathlib.Core.Bool.{Bool, true, false}
@@ -26,7 +28,7 @@ use Rattle.reader.proofs.Laws.Counts.{step}
 
 module _ (d : List ℕ) (i : ℕ) where
   -- a record has as many octets as its blocks say
-  record-long : 512 * i < length d → starts (from d i) ≡ true → length (recordFrom (from d i)) ≡ recordLength (firstBlock (from d i))
+  pub record-long : 512 * i < length d → starts (from d i) ≡ true → length (recordFrom (from d i)) ≡ recordLength (firstBlock (from d i))
   unfolding recordFrom
   record-long h t =
       let n : ℕ = recordLength (firstBlock (from d i)) in
@@ -56,3 +58,19 @@ module _ (d : List ℕ) (i : ℕ) where
   pub item-moves : (room : List ℕ) → 512 * i < length d → 0 < itemBlocks (itemAt d i room)
   unfolding foundAt
   item-moves room h = rw (item-blocks room, lt-ltb (512 * i) (length d) h) (some-found h (starts (from d i)) refl)
+
+  -- a step that passes a block stands before the deck's end, and one that passes none does not
+  pub item-inside : (room : List ℕ) → (itemBlocks (itemAt d i room) ≡ 0 → ⊥) → 512 * i < length d
+  unfolding itemAt
+  item-inside room some =
+      ⊎-elim
+      (λ (h : 512 * i < length d). h)
+      (λ (h : length d ≤ 512 * i). absurd (some (rw (le-ltb (512 * i) (length d) h))))
+      (below-or-not (512 * i) (length d))
+
+  pub item-past : (room : List ℕ) → itemBlocks (itemAt d i room) ≡ 0 → length d ≤ 512 * i
+  item-past room none =
+      ⊎-elim
+      (λ (h : 512 * i < length d). absurd (omega (arith, none, item-moves room h)))
+      (λ (h : length d ≤ 512 * i). h)
+      (below-or-not (512 * i) (length d))

@@ -1,5 +1,8 @@
 -- What the reader's step answers.
+--     cut-on-desk                          what the desk says of the certificate's length is what the record says
+--     on-certificate, on-issuer            where the parts of a record at the front of the desk are
 --     desk-linted                          the linter's answer to the parts of a record on the desk is its answer to the record
+--     clear-long                           how long the desk is
 --     desk-record, desk-cut, desk-enough   the data of a record that starts at a block, gathered on the desk
 --     step-record, step-lost, step-end     a step, by what is found
 -- Assumes nothing.
@@ -8,13 +11,14 @@ use mathlib.Core.Bool.{Bool, true, false, cond}
 use mathlib.Core.List.{List, _++_}
 use Prim.Native.Nat.{ℕ, _+_, _-_, _*_, _≤_}
 use native.Mathlib.Omega.{arith}
-use lib.ListN.{length, take, drop, length-append, List·getD-append}
+use lib.ListN.{length, take, drop, replicate, length-append, length-replicate, List·getD-append}
 use lib.Seq.{take-add, take-take, take-append-le, drop-at, getD-take, length-take-le}
 use lib.Dec.{ltb}
 use borrow.Author.Tests.{lt-ltb}
 use Rattle.reader.specs.Runs.{from, starts, dataFrom, recordFrom}
 use Rattle.reader.specs.Events.{eventIf}
 use Rattle.reader.specs.Finding.{foundIf, foundAt}
+use Rattle.reader.specs.Taking.{deskWith}
 use Rattle.reader.specs.Stepping.{lintedRoom, itemOf, roomAfter, itemAt, roomAt, Linted, Stepped}
 use Rattle.reader.specs.declared.finding.Loss.{Loss}
 use Rattle.reader.specs.declared.finding.Found.{Found}
@@ -27,6 +31,7 @@ use Rattle.lint.specs.Answers.{Answered}
 use Rattle.lint.specs.declared.linting.Answer.{Answer}
 use Rattle.reader.proofs.Laws.Places.{data-length}
 use Rattle.reader.proofs.Laws.Found.{Start}
+use Rattle.reader.proofs.Laws.Gathering.{desk-with}
 use Rattle.reader.specs.declared.finding.Found.the-variants as Founds
 use Rattle.reader.specs.declared.stepping.Item.the-variants as Items
 
@@ -37,6 +42,9 @@ drop-take m n l h k =
     ∙ ap (λ (t : List ℕ). drop m t) (take-add m (n - m) l)
     ∙ drop-at (take m l) (take (n - m) (drop m l)) m (length-take-le m l k)
 
+pub cut-on-desk : (desk : List ℕ) (n : ℕ) → 3 ≤ n → certificateLength (take n desk) ≡ pairAt desk 1
+cut-on-desk desk n h = ap₂ (λ (a b : ℕ). 256 * a + b) (getD-take n desk 1 0 (omega arith)) (getD-take n desk 2 0 (omega arith))
+
 -- a record of n octets at the front of the desk, whose certificate ends before `cut`
 module _ (desk : List ℕ) (n cut : ℕ) (e : cut ≡ 3 + pairAt desk 1) (h : cut ≤ n) (k : n ≤ length desk) where
   abbrev p : List ℕ
@@ -46,16 +54,16 @@ module _ (desk : List ℕ) (n cut : ℕ) (e : cut ≡ 3 + pairAt desk 1) (h : cu
   on-profile = getD-take n desk 0 0 (omega arith)
 
   on-cut : certificateLength p ≡ pairAt desk 1
-  on-cut = ap₂ (λ (a b : ℕ). 256 * a + b) (getD-take n desk 1 0 (omega arith)) (getD-take n desk 2 0 (omega arith))
+  on-cut = cut-on-desk desk n (omega arith)
 
-  on-certificate : certificateOctets p ≡ take (cut - 3) (drop 3 desk)
+  pub on-certificate : certificateOctets p ≡ take (cut - 3) (drop 3 desk)
   unfolding certificateOctets
   on-certificate =
       let m : certificateLength p ≡ cut - 3 = on-cut ∙ omega arith in
       ap₂ (λ (i : ℕ) (l : List ℕ). take i l) m (drop-take 3 n desk (omega arith) (omega arith))
       ∙ take-take (cut - 3) (n - 3) (drop 3 desk) (omega arith)
 
-  on-issuer : issuerOctets p ≡ take (n - cut) (drop cut desk)
+  pub on-issuer : issuerOctets p ≡ take (n - cut) (drop cut desk)
   unfolding issuerOctets
   on-issuer =
       let m : 3 + certificateLength p ≡ cut = omega (arith, on-cut) in
@@ -73,22 +81,29 @@ module _ (desk : List ℕ) (n cut : ℕ) (e : cut ≡ 3 + pairAt desk 1) (h : cu
         bytes = rw (on-profile, on-certificate, on-issuer, ← q) (l .bytes);
       }
 
+-- the desk before anything lies on it
+pub clear-long : length {A = ℕ} (replicate 16566 0) ≡ 16566
+clear-long = length-replicate {A = ℕ} 16566 0
+
 -- a record that starts at a block, whose data is gathered at the front of a desk of 16,566 octets
 module _ (d : List ℕ) (i number n k : ℕ) (desk₀ desk : List ℕ) (start : Start d i number n) (e : k ≡ parts n) (long : length desk₀ ≡ 16566)
-    (g : desk ≡ dataFrom k (from d i) ++ drop (k * 502) desk₀) where
+    (g : desk ≡ deskWith d i k desk₀) where
   abbrev gathered : List ℕ
   gathered = dataFrom k (from d i)
 
   gathered-long : length gathered ≡ k * 502
   gathered-long = data-length k d i (omega (arith, start .whole))
 
+  on-desk : desk ≡ gathered ++ drop (k * 502) desk₀
+  on-desk = g ∙ desk-with d i k desk₀ (omega (arith, start .whole)) (omega (arith, start .most))
+
   pub desk-enough : n ≤ length desk
-  desk-enough = rw (g, length-append) (omega (arith, gathered-long))
+  desk-enough = rw (on-desk, length-append) (omega (arith, gathered-long))
 
   pub desk-record : take n desk ≡ recordFrom (from d i)
   unfolding recordFrom
   desk-record =
-      ap (λ (l : List ℕ). take n l) g
+      ap (λ (l : List ℕ). take n l) on-desk
       ∙ take-append-le n gathered (drop (k * 502) desk₀) (omega (arith, gathered-long))
       ∙ rw (e, ← start .length-is)
 
@@ -96,7 +111,7 @@ module _ (d : List ℕ) (i number n k : ℕ) (desk₀ desk : List ℕ) (start : 
   desk-cut =
       let enough : 3 ≤ length gathered = omega (arith, gathered-long, start .least) in
       let same : certificateLength desk ≡ certificateLength gathered =
-      ap certificateLength g
+      ap certificateLength on-desk
       ∙ ap₂ (λ (a b : ℕ). 256 * a + b)
       (List·getD-append gathered (drop (k * 502) desk₀) 0 1 (omega arith)) (List·getD-append gathered (drop (k * 502) desk₀) 0 2 (omega arith)) in
       let fitted : certificateLength gathered ≤ n - 3 = rw e (start .fitted) in

@@ -1,7 +1,8 @@
 -- Stepping through a whole deck, the same room lent again at each step.
 --     same-handed         in a room as long an event is handed over the same
 --     item-is, room-is    what a step hands out before the deck's end, and what it leaves in the room
---     room-ended          past the end it leaves the room as it was
+--     item-ended, room-ended     past the end it hands out the end, and leaves the room as it was
+--     handed-next         what is handed over from a position on: what a step hands out there, and the rest
 --     walked              it hands out the events of the deck, each as in the room at the start
 -- Assumes nothing.
 use mathlib.Core.Path.{_≡_, refl, sym, ap, ap₂, _∙_}
@@ -13,10 +14,11 @@ use native.Mathlib.Omega.{arith}
 use lib.ListN.{length, drop-of-length-le}
 use borrow.Author.Tests.{lt-ltb, le-ltb}
 use Rattle.reader.specs.Runs.{blocks, from, starts}
-use Rattle.reader.specs.Events.{Event, record-at, lost-at, eventIf, reading, events}
+use Rattle.reader.specs.Events.{Event, record-at, lost-at, eventIf, reading, events, eventsFrom}
 use Rattle.reader.specs.Finding.{foundAt, blocksIn}
-use Rattle.reader.specs.Stepping.{lintedRoom, itemOf, roomAfter, eventAt, itemAt, roomAt}
+use Rattle.reader.specs.Stepping.{lintedRoom, itemOf, roomAfter, itemBlocks, eventAt, itemAt, roomAt}
 use Rattle.reader.specs.Walking.{Handed, handedAt, unlessEnd, walk, positionOf, handedOver, allHandedOver}
+use Rattle.reader.specs.declared.stepping.Item.{Item}
 use Rattle.blocks.specs.Record.{profileIn, certificateOctets, issuerOctets}
 use Rattle.blocks.proofs.Laws.Logic.{below-or-not}
 use Rattle.lint.proofs.Laws.Rooms.{answer-room, room-long, report-room}
@@ -56,9 +58,9 @@ event-stands false position bs = refl
 -- ---- a step
 
 module _ (d : List ℕ) (i : ℕ) where
-  ended : (room : List ℕ) → length d ≤ 512 * i → itemAt d i room ≡ Items.End
+  pub item-ended : (room : List ℕ) → length d ≤ 512 * i → itemAt d i room ≡ Items.End
   unfolding itemAt
-  ended room h = rw (le-ltb _ _ h)
+  item-ended room h = rw (le-ltb _ _ h)
 
   pub room-ended : (room : List ℕ) → length d ≤ 512 * i → roomAt d i room ≡ room
   unfolding roomAt
@@ -73,28 +75,45 @@ module _ (d : List ℕ) (i : ℕ) where
     unfolding roomAt
     room-is room = rw (lt-ltb _ _ h)
 
+-- what is handed over from a position on, in any room: what a step hands out there in a room as long, and then what is handed over from where it ends
+pub handed-next : (d other : List ℕ) (i : ℕ) (room : List ℕ) → length room ≡ length other → 512 * i < length d
+    → allHandedOver other (eventsFrom d i)
+    ≡ handedAt i (itemAt d i room) (roomAt d i room) ∷ allHandedOver other (eventsFrom d (i + itemBlocks (itemAt d i room)))
+handed-next d other i room h k =
+    let e : Event = eventAt d i in
+    let m : ℕ = itemBlocks (itemAt d i room) in
+    ap (λ (es : List Event). allHandedOver other es) (reads-on d i k)
+    ∙ ap₂ (λ (x : Handed) (n : ℕ). x ∷ allHandedOver other (eventsFrom d (i + n)))
+    (sym (same-handed room other h e)
+    ∙ ap (λ (p : ℕ). handedAt p (itemOf room e) (roomAfter room e)) (event-stands (starts (from d i)) i (from d i))
+    ∙ ap₂ (λ (x : Item) (last : List ℕ). handedAt i x last) (sym (item-is d i k room)) (sym (room-is d i k room)))
+    (sym (item-blocks d i room))
+
 -- ---- the walk
 
 abbrev Later : ℕ → List ℕ → List ℕ → Type 0
 Later n d other =
-    (i : ℕ) (room : List ℕ) → length room ≡ length other → length (blocks d) ≤ i + n → walk n d i room ≡ allHandedOver other (reading 0 i (from d i))
+    (i : ℕ) (room : List ℕ) → length room ≡ length other → length (blocks d) ≤ i + n → walk n d i room ≡ allHandedOver other (eventsFrom d i)
 
 module _ (n : ℕ) (d other : List ℕ) (i : ℕ) (room : List ℕ) where
-  past-end : length d ≤ 512 * i → walk (suc n) d i room ≡ allHandedOver other (reading 0 i (from d i))
-  past-end k = rw (ended d i room k, from-nil d i k)
+  past-end : length d ≤ 512 * i → walk (suc n) d i room ≡ allHandedOver other (eventsFrom d i)
+  past-end k = rw (item-ended d i room k, from-nil d i k)
 
   inside : Later n d other → length room ≡ length other → length (blocks d) ≤ i + suc n → 512 * i < length d
-      → walk (suc n) d i room ≡ allHandedOver other (reading 0 i (from d i))
+      → walk (suc n) d i room ≡ allHandedOver other (eventsFrom d i)
   inside later h l k =
       let e : Event = eventAt d i in
       let m : ℕ = blocksIn (foundAt d i) in
       let some : 0 < m = rw (item-blocks d i room) at (item-moves d i room k) in
-      rw (item-is d i k room, room-is d i k room)
-      (no-end room e (handedAt i (itemOf room e) (roomAfter room e)) (walk n d (i + m) (roomAfter room e))
-      ∙ ap₂ (λ (x : Handed) (xs : List Handed). x ∷ xs)
-      (ap (λ (p : ℕ). handedAt p (itemOf room e) (roomAfter room e)) (sym (event-stands (starts (from d i)) i (from d i))) ∙ same-handed room other h e)
-      (later (i + m) (roomAfter room e) (after-long room e ∙ h) (omega arith))
-      ∙ ap (λ (es : List Event). allHandedOver other es) (sym (reads-on d i k)))
+      let long : length (roomAt d i room) ≡ length other = rw (room-is d i k room) (after-long room e ∙ h) in
+      rw (handed-next d other i room h k, item-blocks d i room)
+      (goes (itemAt d i room) (item-is d i k room)
+      ∙ ap (λ (xs : List Handed). handedAt i (itemAt d i room) (roomAt d i room) ∷ xs) (later (i + m) (roomAt d i room) long (omega arith)))
+    where
+      goes : (item : Item) → item ≡ itemOf room (eventAt d i)
+          → unlessEnd item (handedAt i (itemAt d i room) (roomAt d i room)) (walk n d (i + blocksIn (foundAt d i)) (roomAt d i room))
+          ≡ handedAt i (itemAt d i room) (roomAt d i room) ∷ walk n d (i + blocksIn (foundAt d i)) (roomAt d i room)
+      goes item e = rw e (no-end room (eventAt d i) _ _)
 
 walked-from : (n : ℕ) (d other : List ℕ) → Later n d other
 walked-from zero d other i room h l =

@@ -1,5 +1,6 @@
 -- What the writer takes is a record, and the linter is given of it what was submitted.
 --     Proper, AllProper      what of a record's octets the reader asks
+--     certificate-short      its certificate is no longer than the paper allows
 --     proper, all-proper     the octets of what the writer takes are such
 --     linted, linted-room    what the reader hands out of these octets is the record as it was submitted, with the linter's answer to it alone
 -- Assumes nothing.
@@ -27,7 +28,7 @@ AllProper (s ∷ ss) = Proper (submittedOctets s) × AllProper ss
 
 module _ (s : Submitted) (w : Writable s) where
   -- refusals 1 and 2
-  certificate-short : length (s .certificate) ≤ 8192
+  pub certificate-short : length (s .certificate) ≤ 8192
   certificate-short = admitted-certificate (length (s .certificate)) (length (s .issuer)) (s .profile) (w .for) (w .admitted) .1
 
   issuer-short : length (s .issuer) ≤ 8192

@@ -7,9 +7,8 @@ use native.Mathlib.Omega.{arith}
 use lib.ListN.{length}
 use borrow.Author.Needs.{needs}
 use Rattle.answers.specs.Rooms.{roomPast}
-use Rattle.reader.specs.Events.{events}
+use Rattle.reader.specs.Events.{events, eventsFrom}
 use Rattle.reader.specs.Stepping.{itemBlocks, itemAt}
-use Rattle.reader.proofs.Laws.Counts.{eventsFrom}
 use Rattle.answers.proofs.Laws.Stepping.{goes-on, at-end}
 use Rattle.reader.proofs.Laws.Passing.{item-within}
 use Rattle.answers.proofs.decks.say_steps.Statement.{statement}

@@ -7,12 +7,12 @@ use native.Mathlib.Omega.{arith}
 use lib.ListN.{length}
 use borrow.Author.Needs.{needs}
 use Rattle.reader.specs.Runs.{from}
-use Rattle.reader.specs.Events.{reading, events}
+use Rattle.reader.specs.Events.{reading, events, eventsFrom}
 use Rattle.reader.specs.Counting.{recordsIn, lostIn, tallyOf}
 use Rattle.reader.specs.declared.counting.Counts.{Counts}
 use Rattle.reader.specs.declared.finding.Found.{Found}
 use Rattle.reader.specs.declared.finding.Found.the-variants.{End}
-use Rattle.reader.proofs.Laws.Counts.{eventsFrom, Step, step, ends}
+use Rattle.reader.proofs.Laws.Counts.{Step, step, ends}
 use Rattle.reader.proofs.counting.tally.Statement.{statement}
 use Rattle.reader.proofs.counting.tally.Tie as tie
 

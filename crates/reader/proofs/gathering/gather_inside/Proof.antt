@@ -1,4 +1,4 @@
--- `reader::stepping::gather` meets its contract: the desk holds the data of the blocks passed, and behind it what it held. Assumes nothing.
+-- `reader::gathering::gather_inside` meets its contract: the desk holds the data of the blocks passed, and behind it what it held. Assumes nothing.
 use mathlib.Core.Path.{_≡_, refl}
 use mathlib.Core.List.{_++_}
 use Prim.Native.Nat.{_*_, _-_, _≤_}
@@ -7,8 +7,8 @@ use native.Mathlib.Omega.{arith}
 use lib.ListN.{length, drop}
 use Rattle.reader.specs.Runs.{from, dataFrom}
 use Rattle.reader.proofs.Laws.Gathering.{gathered, gathered-long}
-use Rattle.reader.proofs.stepping.gather.Statement.{statement}
-use Rattle.reader.proofs.stepping.gather.Tie as tie
+use Rattle.reader.proofs.gathering.gather_inside.Statement.{statement}
+use Rattle.reader.proofs.gathering.gather_inside.Tie as tie
 
 abbrev Inv-loop : tie.InvT-loop
 Inv-loop deck position k desk₀ j₀ desk j = (j ≤ k) × (length desk ≡ length desk₀) × (desk ≡ dataFrom j (from deck position) ++ drop (j * 502) desk₀)
@@ -58,8 +58,8 @@ returns c =
     let e : l .j ≡ a .k = omega arith in
     rw e at (l .inv .2)
 
-pub gather-spec : {M : Type 1} → statement M
-gather-spec =
+pub gather-inside-spec : {M : Type 1} → statement M
+gather-inside-spec =
     tie.close
     (tie.spec Inv-loop μ-loop loop-holds add-copy mul-copy add-copy-2 mul-copy-2 (λ c κs. tt) add-j loop-less
     loop-again same-length returns)

@@ -1,0 +1,3 @@
+-- What is fetched of a deck.
+pub mod Fetching
+pub mod Fetches
