@@ -19,7 +19,7 @@
 //! | `verdicts` | octets with their verdicts of soundness, by hand |
 //! | `grammar` | octets that are certificates or extension values, and octets that are none, by hand |
 //! | `holding`, `invariants`, `shrink` | comparing, and showing what differs |
-//! | `program` | running a program of this repository as a process |
+//! | `program`, `commands` | running a program of this repository as a process, as `rt` runs it and by `bin/` |
 //! | `answers` | a program that answers frames with lines, held to the lines that are expected |
 //! | `outcome`, `queue` | what the proved linter, writer and reader write, and requests that wait for them |
 //! | `calls` | calls of the linter, the proved one held to the whole answer that is due |
@@ -36,6 +36,7 @@ pub mod bad_values;
 pub mod calendar;
 pub mod calls;
 pub mod certificate;
+pub mod commands;
 pub mod correct;
 pub mod damage;
 pub mod deck;

@@ -13,6 +13,13 @@ use crate::records::refused;
 
 /// The sample's octets and its listing.
 pub fn sample() -> (Vec<u8>, String) {
+    let deck = sample_deck();
+    let listing = listing_of(&deck.events(AMPLE_ROOM), deck.blocks());
+    (deck.octets, listing)
+}
+
+/// The sample, with what reading it must give.
+pub fn sample_deck() -> Deck {
     let mut random = Random::for_purpose("the sample deck");
     let mut deck = Deck::default();
     let mut number = 0;
@@ -38,8 +45,7 @@ pub fn sample() -> (Vec<u8>, String) {
     deck.push_record(&next(plain(1).encode()));
     deck.push_lost(&[0; 512], Loss::Unsound);
     deck.push_lost(&[0xFF; 100], Loss::Short);
-    let listing = listing_of(&deck.events(AMPLE_ROOM), deck.blocks());
-    (deck.octets, listing)
+    deck
 }
 
 /// Which faults of the catalogue the faulty records have.

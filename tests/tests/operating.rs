@@ -2,50 +2,21 @@
 //! program runs that is older than its sources.
 
 use std::env;
-use std::fs::{self, File, OpenOptions};
+use std::fs;
 use std::io::Write;
 use std::os::unix::fs::symlink;
-use std::path::{Path, PathBuf};
-use std::process::{self, Command, Output, Stdio};
+use std::path::PathBuf;
+use std::process::{Command, Stdio};
 use std::time::{Duration, SystemTime};
 
+use comparison::commands::{command, folder, full_disk, open, outcome, repository, SAID};
 use comparison::program::{kit, Program};
 
-/// Standard error spoke.
-const SAID: Option<i32> = Some(1);
 /// Signal 13, a write to a pipe that nobody reads.
 const BROKEN_PIPE: Option<i32> = Some(128 + 13);
 
-fn repository() -> PathBuf {
-    Path::new(env!("CARGO_MANIFEST_DIR")).parent().expect("the package stands in a repository").to_path_buf()
-}
-
-/// The command of this name below `bin/`, unless the programs are left out.
-fn command(name: &str) -> Option<Command> {
-    Program::unless_left_out(name, "bin")?;
-    let mut command = Command::new(repository().join("bin").join(name));
-    command.stdin(Stdio::null()).stdout(Stdio::piped()).stderr(Stdio::piped());
-    Some(command)
-}
-
-fn outcome(command: &mut Command) -> Output {
-    command.output().unwrap_or_else(|error| panic!("{command:?} does not run: {error}"))
-}
-
 fn sample(name: &str) -> PathBuf {
     repository().join("samples").join(name)
-}
-
-fn open(path: &Path) -> File {
-    File::open(path).unwrap_or_else(|error| panic!("{}: {error}", path.display()))
-}
-
-/// An empty folder of this process's own.
-fn folder(name: &str) -> PathBuf {
-    let folder = env::temp_dir().join(format!("dlozamife-{}-{name}", process::id()));
-    fs::remove_dir_all(&folder).ok();
-    fs::create_dir_all(&folder).unwrap_or_else(|error| panic!("{}: {error}", folder.display()));
-    folder
 }
 
 #[test]
@@ -68,8 +39,7 @@ fn a_deck_that_cannot_be_read_does_not() {
 #[test]
 fn a_full_disk_does_not() {
     let Some(mut decklint) = command("decklint") else { return };
-    let full = OpenOptions::new().write(true).open("/dev/full").expect("the system has /dev/full");
-    let ended = outcome(decklint.stdin(open(&sample("night.deck"))).stdout(full));
+    let ended = outcome(decklint.stdin(open(&sample("night.deck"))).stdout(full_disk()));
     assert_eq!(ended.status.code(), SAID);
     assert!(String::from_utf8_lossy(&ended.stderr).contains("standard output"));
 }
@@ -103,7 +73,8 @@ fn a_refused_record_does_not_and_a_written_one_does() {
 fn an_argument_of_decklint_gets_the_usage_line_and_nothing_is_read() {
     for arguments in [&["samples/night.deck"][..], &[""], &["all", "all"]] {
         let Some(mut decklint) = command("decklint") else { return };
-        let mut running = decklint.args(arguments).stdin(Stdio::piped()).spawn().expect("bin/decklint starts");
+        let mut running =
+            decklint.args(arguments).stdin(Stdio::piped()).spawn().expect("bin/decklint starts");
         let open_input = running.stdin.take();
         let ended = running.wait_with_output().expect("it ends though its input does not");
         drop(open_input);
@@ -121,19 +92,24 @@ struct Scratch {
 impl Scratch {
     fn with_status(name: &str, status: i32) -> Scratch {
         let root = folder(name);
-        for inner in ["bin", "tools", "target/bin", "crates/one/src", "crates/one/specs", "crates/one/proofs"] {
+        for inner in ["bin", "tools", "target/bin", "crates/one/src", "crates/one/specs", "crates/one/proofs"]
+        {
             fs::create_dir_all(root.join(inner)).expect("a folder is made");
         }
-        fs::copy(repository().join("bin/run-program"), root.join("bin/run-program")).expect("the script is there");
+        fs::copy(repository().join("bin/run-program"), root.join("bin/run-program"))
+            .expect("the script is there");
         symlink("run-program", root.join("bin/decklint")).expect("a link is made");
-        fs::copy(repository().join("target/bin/decklint"), root.join("target/bin/decklint")).expect("the program is there");
+        fs::copy(repository().join("target/bin/decklint"), root.join("target/bin/decklint"))
+            .expect("the program is there");
         fs::write(root.join("crates.txt"), "one:\n").expect("a file is written");
         fs::write(root.join("crates/one/src/lib.rt"), "").expect("a file is written");
         let script = format!("#!/bin/sh\necho \"$@\" >> '{}'\nexit {status}\n", root.join("asked").display());
         fs::write(root.join("tools/rt"), script).expect("a file is written");
         Command::new("chmod").arg("+x").arg(root.join("tools/rt")).status().expect("chmod runs");
         let scratch = Scratch { root };
-        for old in ["crates.txt", "crates/one/src", "crates/one/specs", "crates/one/proofs", "crates/one/src/lib.rt"] {
+        for old in
+            ["crates.txt", "crates/one/src", "crates/one/specs", "crates/one/proofs", "crates/one/src/lib.rt"]
+        {
             scratch.age(old, 1000);
         }
         scratch
@@ -150,7 +126,10 @@ impl Scratch {
         let path = format!("{}:{}", self.root.join("tools").display(), env::var("PATH").unwrap_or_default());
         let home = kit().expect("there is a kit");
         let ended = outcome(
-            Command::new(self.root.join("bin/decklint")).env("PATH", path).env("RATTLE_HOME", home).stdin(Stdio::null()),
+            Command::new(self.root.join("bin/decklint"))
+                .env("PATH", path)
+                .env("RATTLE_HOME", home)
+                .stdin(Stdio::null()),
         );
         (ended.status.code(), String::from_utf8_lossy(&ended.stdout).into_owned())
     }

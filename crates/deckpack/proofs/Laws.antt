@@ -1,2 +1,3 @@
 -- Laws of the definitions, by file.
 pub mod Ending
+pub mod Adding
