@@ -7,7 +7,8 @@ use Rattle.lint.specs.declared.reasons.Refusal.{Refusal}
 use Rattle.lint.specs.declared.reasons.Refusal.the-variants.{Inadmissible, Unsound, Unordered, NotCertificate, NoRoom}
 use Rattle.lint.specs.declared.linting.Answer.{Answer}
 use Rattle.lint.specs.declared.linting.Answer.the-variants.{Report, Refused}
-use Rattle.refusals.specs.Table.{wrongCertificateLength, wrongIssuerLength, unknownProfile, notSoundDer, setOutOfOrder, notCertificate, tooLittleRoom, onNeither, onCertificate, onIssuer, refused, unrefused}
+use Rattle.refusals.specs.Table.{wrongCertificateLength, wrongIssuerLength, unknownProfile, notSoundDer, setOutOfOrder, notCertificate, tooLittleRoom}
+use Rattle.refusals.specs.Table.{onNeither, onCertificate, onIssuer, refused, unrefused}
 use Rattle.refusals.specs.declared.table.Values.{Values}
 use Rattle.lint.specs.declared.reasons.Inadmissible as Reason
 

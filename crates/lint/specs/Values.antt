@@ -5,7 +5,8 @@ use Prim.Native.Nat.{ℕ}
 use lib.Dec.{eqb}
 use lib.ListN.{length}
 use Rattle.lint.specs.Judging.{sideLengthOk}
-use Rattle.refusals.specs.Table.{wrongCertificateLength, wrongIssuerLength, unknownProfile, tooLittleRoom, onNeither, onCertificate, onIssuer, refused, unrefused, row}
+use Rattle.refusals.specs.Table.{wrongCertificateLength, wrongIssuerLength, unknownProfile, tooLittleRoom}
+use Rattle.refusals.specs.Table.{onNeither, onCertificate, onIssuer, refused, unrefused, row}
 use Rattle.refusals.specs.declared.table.Values.{Values}
 use Rattle.der.specs.Soundness.{derSoundness, soundnessNumber, soundnessPlace}
 use Rattle.asn.specs.Answers.{certificateVerdict, verdictNumber, verdictPlace}

@@ -26,7 +26,7 @@ pub fn answer_values(answer: Answer) -> Values
     ensures { λ v. ⌜ v ≡ answerValues answer ⌝ }
 {
     match answer {
-        Answer::Report(count) => unrefused(count),
+        Answer::Report(findings) => unrefused(findings),
         Answer::Refused(r) => refusal_values(r),
     }
 }

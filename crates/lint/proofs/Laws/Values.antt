@@ -25,7 +25,8 @@ use Rattle.lint.specs.declared.judging.Admission.{Admission}
 use Rattle.lint.specs.declared.judging.Judgement.{Judgement}
 use Rattle.lint.specs.declared.linting.Answer.{Answer}
 use Rattle.lint.specs.declared.linting.Answer.the-variants.{Report, Refused}
-use Rattle.refusals.specs.Table.{notSoundDer, setOutOfOrder, notCertificate, tooLittleRoom, wrongCertificateLength, wrongIssuerLength, onNeither, onCertificate, onIssuer, refused, unrefused, row}
+use Rattle.refusals.specs.Table.{notSoundDer, setOutOfOrder, notCertificate, tooLittleRoom, wrongCertificateLength, wrongIssuerLength}
+use Rattle.refusals.specs.Table.{onNeither, onCertificate, onIssuer, refused, unrefused, row}
 use Rattle.refusals.specs.declared.table.Values.{Values}
 use Rattle.refusals.proofs.Laws.Table.{Tabled, tabled}
 use Rattle.der.specs.Soundness.{derSoundness, soundnessNumber, soundnessPlace}
