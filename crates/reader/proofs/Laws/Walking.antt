@@ -2,6 +2,7 @@
 --     same-handed         in a room as long an event is handed over the same
 --     item-is, room-is    what a step hands out before the deck's end, and what it leaves in the room
 --     item-ended, room-ended     past the end it hands out the end, and leaves the room as it was
+--     room-stays          a step leaves a room as long as it was
 --     handed-next         what is handed over from a position on: what a step hands out there, and the rest
 --     walked              it hands out the events of the deck, each as in the room at the start
 -- Assumes nothing.
@@ -75,6 +76,13 @@ module _ (d : List ℕ) (i : ℕ) where
     unfolding roomAt
     room-is room = rw (lt-ltb _ _ h)
 
+pub room-stays : (d : List ℕ) (i : ℕ) (room : List ℕ) → length (roomAt d i room) ≡ length room
+room-stays d i room =
+    ⊎-elim
+    (λ (h : 512 * i < length d). rw (room-is d i h room) (after-long room (eventAt d i)))
+    (λ (h : length d ≤ 512 * i). rw (room-ended d i room h))
+    (below-or-not (512 * i) (length d))
+
 -- what is handed over from a position on, in any room: what a step hands out there in a room as long, and then what is handed over from where it ends
 pub handed-next : (d other : List ℕ) (i : ℕ) (room : List ℕ) → length room ≡ length other → 512 * i < length d
     → allHandedOver other (eventsFrom d i)
@@ -102,10 +110,9 @@ module _ (n : ℕ) (d other : List ℕ) (i : ℕ) (room : List ℕ) where
   inside : Later n d other → length room ≡ length other → length (blocks d) ≤ i + suc n → 512 * i < length d
       → walk (suc n) d i room ≡ allHandedOver other (eventsFrom d i)
   inside later h l k =
-      let e : Event = eventAt d i in
       let m : ℕ = blocksIn (foundAt d i) in
       let some : 0 < m = rw (item-blocks d i room) at (item-moves d i room k) in
-      let long : length (roomAt d i room) ≡ length other = rw (room-is d i k room) (after-long room e ∙ h) in
+      let long : length (roomAt d i room) ≡ length other = room-stays d i room ∙ h in
       rw (handed-next d other i room h k, item-blocks d i room)
       (goes (itemAt d i room) (item-is d i k room)
       ∙ ap (λ (xs : List Handed). handedAt i (itemAt d i room) (roomAt d i room) ∷ xs) (later (i + m) (roomAt d i room) long (omega arith)))

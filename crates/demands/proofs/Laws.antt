@@ -1,0 +1,5 @@
+-- By demand.
+pub mod Tables
+pub mod First
+pub mod Second
+pub mod Third

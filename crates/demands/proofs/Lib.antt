@@ -1,0 +1,2 @@
+-- The demands, proved.
+pub mod Laws
