@@ -34,8 +34,8 @@ octetString = alt 0x04 (leaf Test.free) none
 abbrev pub null : Form
 null = alt 0x05 (leaf Test.nothing) none
 
-abbrev pub oid : Form
-oid = alt 0x06 (leaf Test.oid) none
+abbrev pub objectIdentifier : Form
+objectIdentifier = alt 0x06 (leaf Test.oid) none
 
 abbrev pub ia5String : Form
 ia5String = alt 0x16 (leaf Test.free) none
@@ -85,12 +85,12 @@ choice (f ∷ fs) = either f (choice fs)
 unfoldable pub algorithmIdentifier : Form
 algorithmIdentifier =
     sequence
-    (one oid  -- algorithm
+    (one objectIdentifier  -- algorithm
     (opt any  -- parameters
     done))
 
 unfoldable pub attributeTypeAndValue : Form
-attributeTypeAndValue = sequence (one oid (one any done))
+attributeTypeAndValue = sequence (one objectIdentifier (one any done))
 
 unfoldable pub relativeDistinguishedName : Form
 relativeDistinguishedName = setOf attributeTypeAndValue
@@ -110,7 +110,7 @@ subjectPublicKeyInfo = sequence (one algorithmIdentifier (one bitString done))
 unfoldable pub extension : Form
 extension =
     sequence
-    (one oid  -- extnID
+    (one objectIdentifier  -- extnID
     (opt booleanTrue  -- critical BOOLEAN DEFAULT FALSE
     (one octetString  -- extnValue
     done)))
@@ -147,7 +147,7 @@ certificate =
 -- Extensions
 
 unfoldable pub otherName : Form
-otherName = sequence (one oid (one (explicit 0 any) done))
+otherName = sequence (one objectIdentifier (one (explicit 0 any) done))
 
 unfoldable pub generalName : Form
 generalName =
@@ -160,7 +160,7 @@ generalName =
     ∷ freeList 5  -- ediPartyName
     ∷ implicit 6 ia5String  -- uniformResourceIdentifier
     ∷ implicit 7 octetString  -- iPAddress
-    ∷ implicit 8 oid  -- registeredID
+    ∷ implicit 8 objectIdentifier  -- registeredID
     ∷ [])
 
 unfoldable pub generalNames : Form
@@ -188,15 +188,15 @@ unfoldable pub keyUsage : Form
 keyUsage = namedBits
 
 unfoldable pub extKeyUsage : Form
-extKeyUsage = sequenceOf oid
+extKeyUsage = sequenceOf objectIdentifier
 
 unfoldable pub policyQualifierInfo : Form
-policyQualifierInfo = sequence (one oid (one any done))
+policyQualifierInfo = sequence (one objectIdentifier (one any done))
 
 unfoldable pub policyInformation : Form
 policyInformation =
     sequence
-    (one oid  -- policyIdentifier
+    (one objectIdentifier  -- policyIdentifier
     (opt (sequenceOf policyQualifierInfo)  -- policyQualifiers
     done))
 
@@ -204,7 +204,7 @@ unfoldable pub certificatePolicies : Form
 certificatePolicies = sequenceOf policyInformation
 
 unfoldable pub accessDescription : Form
-accessDescription = sequence (one oid (one generalName done))
+accessDescription = sequence (one objectIdentifier (one generalName done))
 
 unfoldable pub authorityInfoAccess : Form
 authorityInfoAccess = sequenceOf accessDescription

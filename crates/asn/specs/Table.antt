@@ -13,7 +13,7 @@ use Rattle.asn.specs.Choosing.{Alternative, Field}
 use Rattle.asn.specs.Choosing.Alternative.{nobody, holding}
 use Rattle.asn.specs.Choosing.Field.{nowhere, here}
 use Rattle.asn.specs.declared.fitting.Found.{Found}
-use Rattle.asn.specs.Module.{any, booleanTrue, integer, natural, bitString, namedBits, octetString, oid, sequenceOf, implicit}
+use Rattle.asn.specs.Module.{any, booleanTrue, integer, natural, bitString, namedBits, octetString, objectIdentifier, sequenceOf, implicit}
 use Rattle.asn.specs.Module.{explicit, free, algorithmIdentifier, attributeTypeAndValue, relativeDistinguishedName, name, time}
 use Rattle.asn.specs.Module.{validity, subjectPublicKeyInfo, extension, extensions, version, tbsCertificate, certificate, generalName}
 use Rattle.asn.specs.Module.{generalNames, authorityKeyIdentifier, basicConstraints, subjectKeyIdentifier, keyUsage, extKeyUsage}
@@ -38,7 +38,7 @@ types =
     ∷ tbsCertificate
     ∷ algorithmIdentifier
     ∷ bitString
-    ∷ oid
+    ∷ objectIdentifier
     ∷ any
     ∷ explicit 0 version
     ∷ integer

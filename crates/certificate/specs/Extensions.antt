@@ -11,6 +11,7 @@ use Rattle.der.specs.Contents.{contentsOf}
 use Rattle.der.specs.Comparing.{firstIs, sameContents}
 use Rattle.der.specs.declared.header.Head.{Head}
 use Rattle.der.specs.Elements.{anyOf}
+use Rattle.der.specs.Oids.{oid}
 
 -- ---- Extension: extnID, critical BOOLEAN DEFAULT FALSE, extnValue
 
@@ -29,17 +30,15 @@ extensionOf s h =
 
 -- ---- the table
 
--- 2.5.29.n
+-- one below id-ce
 abbrev pub certificateExtension : ℕ → List ℕ
-certificateExtension n = 0x55 ∷ 0x1D ∷ n ∷ []
+certificateExtension n = oid (2 ∷ 5 ∷ 29 ∷ n ∷ [])
 
--- 1.3.6.1.5.5.7.1.1
 abbrev pub accessIdentifier : List ℕ
-accessIdentifier = 0x2B ∷ 0x06 ∷ 0x01 ∷ 0x05 ∷ 0x05 ∷ 0x07 ∷ 0x01 ∷ 0x01 ∷ []
+accessIdentifier = oid (1 ∷ 3 ∷ 6 ∷ 1 ∷ 5 ∷ 5 ∷ 7 ∷ 1 ∷ 1 ∷ [])
 
--- 1.3.6.1.5.5.7.48.1.5
 abbrev pub nocheck : List ℕ
-nocheck = 0x2B ∷ 0x06 ∷ 0x01 ∷ 0x05 ∷ 0x05 ∷ 0x07 ∷ 0x30 ∷ 0x01 ∷ 0x05 ∷ []
+nocheck = oid (1 ∷ 3 ∷ 6 ∷ 1 ∷ 5 ∷ 5 ∷ 7 ∷ 48 ∷ 1 ∷ 5 ∷ [])
 
 -- the identifiers of slots 1 to 10
 abbrev pub identifiers : List (List ℕ)
@@ -51,7 +50,7 @@ identifiers =
     ∷ certificateExtension 37  -- extended key usage
     ∷ certificateExtension 32  -- policies
     ∷ certificateExtension 17  -- alternative name
-    ∷ accessIdentifier
+    ∷ accessIdentifier  -- authority information access
     ∷ certificateExtension 31  -- CRL points
     ∷ nocheck
     ∷ []

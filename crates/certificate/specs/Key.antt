@@ -8,14 +8,13 @@ use Rattle.certificate.specs.declared.key.Key.{Key}
 use Rattle.der.specs.Comparing.{contentsAre}
 use Rattle.der.specs.declared.header.Head.{Head}
 use Rattle.der.specs.Members.{firstIn, after}
+use Rattle.der.specs.Oids.{oid}
 
--- rsaEncryption, 1.2.840.113549.1.1.1
 abbrev pub rsaEncryption : List ℕ
-rsaEncryption = 0x2A ∷ 0x86 ∷ 0x48 ∷ 0x86 ∷ 0xF7 ∷ 0x0D ∷ 0x01 ∷ 0x01 ∷ 0x01 ∷ []
+rsaEncryption = oid (1 ∷ 2 ∷ 840 ∷ 113549 ∷ 1 ∷ 1 ∷ 1 ∷ [])
 
--- ecPublicKey, 1.2.840.10045.2.1
 abbrev pub ecPublicKey : List ℕ
-ecPublicKey = 0x2A ∷ 0x86 ∷ 0x48 ∷ 0xCE ∷ 0x3D ∷ 0x02 ∷ 0x01 ∷ []
+ecPublicKey = oid (1 ∷ 2 ∷ 840 ∷ 10045 ∷ 2 ∷ 1 ∷ [])
 
 -- "RSA key" and "EC key" go by the algorithm's OBJECT IDENTIFIER alone
 unfoldable pub kindOf : List ℕ → Head → KeyKind

@@ -9,7 +9,7 @@ use Rattle.certificate.specs.Key.{keyOf}
 use Rattle.certificate.specs.Extensions.{slotOf, extensionOf}
 use Rattle.certificate.specs.declared.slots.Slot.{Slot}
 use Rattle.asn.specs.Grammar.{fits}
-use Rattle.asn.specs.Module.{booleanTrue, bitString, octetString, oid, extensions, valueOf}
+use Rattle.asn.specs.Module.{booleanTrue, bitString, octetString, objectIdentifier, extensions, valueOf}
 use Rattle.asn.specs.Fields.{Optional, Outermost, TbsFields}
 use Rattle.asn.specs.declared.fitting.Verdict.the-variants.{Fits}
 use Rattle.der.specs.Header.{childrenOf}
@@ -60,7 +60,7 @@ pub record ExtensionNamed (s : List ℕ) (h : Head) : Type 0 where
   pub boolean : List Head
   pub tag : h .tag ≡ 0x30
   pub is : membersIn s h ≡ firstIn s h ∷ (boolean ++ (extensionOf s h .value ∷ []))
-  pub identifier-fits : fits oid s (firstIn s h) ≡ Fits
+  pub identifier-fits : fits objectIdentifier s (firstIn s h) ≡ Fits
   pub boolean-fits : Optional booleanTrue s boolean
   pub value-fits : fits octetString s (extensionOf s h .value) ≡ Fits
   pub critical : CriticalNamed (extensionOf s h .critical) boolean
@@ -81,7 +81,7 @@ pub record KeyNamed (s : List ℕ) (key : Head) : Type 0 where
   pub extra : List Head
   pub is : membersIn s key ≡ keyOf s key .algorithm ∷ keyOf s key .bits ∷ []
   pub inner : childrenOf s (keyOf s key .algorithm .body) (keyOf s key .algorithm .end) ≡ firstIn s (keyOf s key .algorithm) ∷ extra
-  pub identifier-fits : fits oid s (firstIn s (keyOf s key .algorithm)) ≡ Fits
+  pub identifier-fits : fits objectIdentifier s (firstIn s (keyOf s key .algorithm)) ≡ Fits
   pub bits-fits : fits bitString s (keyOf s key .bits) ≡ Fits
   pub parameters : ParametersNamed (keyOf s key .parameters) extra
 

@@ -2,6 +2,7 @@
 pub mod Header
 pub mod Contents
 pub mod Integers
+pub mod Oids
 pub mod Order
 pub mod Members
 pub mod Comparing

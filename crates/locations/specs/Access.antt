@@ -9,12 +9,13 @@ use Rattle.locations.specs.declared.access.Method.{Method}
 use Rattle.locations.specs.declared.access.Method.the-variants.{Ocsp, CaIssuers}
 use Rattle.der.specs.Members.{firstIn, secondIn}
 use Rattle.der.specs.Comparing.{contentsAre}
+use Rattle.der.specs.Oids.{oid}
 use Rattle.der.specs.declared.header.Head.{Head}
 
--- id-ad-ocsp is 1.3.6.1.5.5.7.48.1, id-ad-caIssuers 1.3.6.1.5.5.7.48.2
+-- id-ad-ocsp, id-ad-caIssuers
 abbrev pub methodIdentifier : Method → List ℕ
-methodIdentifier Ocsp = 43 ∷ 6 ∷ 1 ∷ 5 ∷ 5 ∷ 7 ∷ 48 ∷ 1 ∷ []
-methodIdentifier CaIssuers = 43 ∷ 6 ∷ 1 ∷ 5 ∷ 5 ∷ 7 ∷ 48 ∷ 2 ∷ []
+methodIdentifier Ocsp = oid (1 ∷ 3 ∷ 6 ∷ 1 ∷ 5 ∷ 5 ∷ 7 ∷ 48 ∷ 1 ∷ [])
+methodIdentifier CaIssuers = oid (1 ∷ 3 ∷ 6 ∷ 1 ∷ 5 ∷ 5 ∷ 7 ∷ 48 ∷ 2 ∷ [])
 
 -- an OBJECT IDENTIFIER, tag 06, that is the method's
 abbrev pub isMethod : List ℕ → Method → Head → Bool

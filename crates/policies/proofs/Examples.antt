@@ -12,6 +12,7 @@ use Rattle.der.specs.Arcs.{arcBelow}
 use Rattle.der.specs.Comparing.{contentsAre}
 use Rattle.der.specs.Header.{headOf}
 use Rattle.der.specs.Members.{firstIn}
+use Rattle.der.specs.Oids.{sevens, subidentifier, subidentifiers, oid}
 use Rattle.der.specs.declared.header.Head.{Head}
 
 -- the element that a value's octets are
@@ -35,17 +36,17 @@ qualified last = 0x30 ∷ 19 ∷ 6 ∷ 1 ∷ 42 ∷ 0x30 ∷ 14 ∷ 0x30 ∷ 12 
 -- the arc alone; with one octet more (P8)
 pub below-right : (below (0x30 ∷ 11 ∷ 6 ∷ 9 ∷ 0x60 ∷ 0x86 ∷ 0x48 ∷ 1 ∷ 0x65 ∷ 3 ∷ 2 ∷ 1 ∷ 3 ∷ []) ∷ below
     (0x30 ∷ 12 ∷ 6 ∷ 10 ∷ 0x60 ∷ 0x86 ∷ 0x48 ∷ 1 ∷ 0x65 ∷ 3 ∷ 2 ∷ 1 ∷ 3 ∷ 0x0D ∷ []) ∷ []) ≡ (false ∷ true ∷ [])
-unfolding policyBelow isBelow headOf octetsFrom numberFrom
+unfolding policyBelow isBelow headOf octetsFrom numberFrom oid subidentifiers subidentifier sevens
 below-right = refl
 
 -- a practice statement; a user notice; no qualifiers
 pub qualifiers-right : (qualifier (qualified 1) ∷ qualifier (qualified 2) ∷ qualifiersOf (0x30 ∷ 3 ∷ 6 ∷ 1 ∷ 42 ∷ [])
     (whole (0x30 ∷ 3 ∷ 6 ∷ 1 ∷ 42 ∷ [])) .sound ∷ []) ≡ (false ∷ true ∷ false ∷ [])
-unfolding otherQualifier contentsAre sameBy headOf octetsFrom numberFrom
+unfolding otherQualifier contentsAre sameBy headOf octetsFrom numberFrom oid subidentifiers subidentifier sevens
 qualifiers-right = refl
 
 -- domain validation; 2.23.140.1.2 itself; an arc below domain validation; another policy
 pub forum-right : (forum (0x30 ∷ 8 ∷ 6 ∷ 6 ∷ 0x67 ∷ 0x81 ∷ 0x0C ∷ 1 ∷ 2 ∷ 1 ∷ []) ∷ forum (0x30 ∷ 7 ∷ 6 ∷ 5 ∷ 0x67 ∷ 0x81 ∷ 0x0C ∷ 1 ∷ 2 ∷ []) ∷ forum
     (0x30 ∷ 9 ∷ 6 ∷ 7 ∷ 0x67 ∷ 0x81 ∷ 0x0C ∷ 1 ∷ 2 ∷ 1 ∷ 1 ∷ []) ∷ forum (0x30 ∷ 3 ∷ 6 ∷ 1 ∷ 42 ∷ []) ∷ []) ≡ (1 ∷ 0 ∷ 0 ∷ 0 ∷ [])
-unfolding arcBelow headOf octetsFrom numberFrom
+unfolding arcBelow headOf octetsFrom numberFrom oid subidentifiers subidentifier sevens
 forum-right = refl

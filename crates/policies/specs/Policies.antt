@@ -7,6 +7,7 @@ use Prim.Native.Nat.{ℕ}
 use lib.Dec.{eqb}
 use Rattle.der.specs.Contents.{contentsOf}
 use Rattle.der.specs.Arcs.{arcBelow}
+use Rattle.der.specs.Oids.{oid}
 use Rattle.der.specs.Members.{firstIn, secondIn}
 use Rattle.der.specs.Comparing.{firstIs}
 use Rattle.der.specs.declared.header.Head.{Head}
@@ -18,17 +19,17 @@ isBelow [] (c ∷ cs) = true
 isBelow (a ∷ arc) [] = false
 isBelow (a ∷ arc) (c ∷ cs) = eqb c a && isBelow arc cs
 
--- 2.16.840.1.101.3.2.1.3, "arc from 003"
+-- "arc from 003"
 abbrev pub federalArc : List ℕ
-federalArc = 0x60 ∷ 0x86 ∷ 0x48 ∷ 1 ∷ 0x65 ∷ 3 ∷ 2 ∷ 1 ∷ 3 ∷ []
+federalArc = oid (2 ∷ 16 ∷ 840 ∷ 1 ∷ 101 ∷ 3 ∷ 2 ∷ 1 ∷ 3 ∷ [])
 
 -- a PolicyInformation names a policy below the arc: 409 asks for "a policy below 2.16.840.1.101.3.2.1.3"
 unfoldable pub policyBelow : List ℕ → Head → Bool
 policyBelow s h = isBelow federalArc (contentsOf s (firstIn s h))
 
--- the CA/Browser Forum's 2.23.140.1.2
+-- the CA/Browser Forum's arc
 abbrev pub forumPolicies : List ℕ
-forumPolicies = 0x67 ∷ 0x81 ∷ 0x0C ∷ 1 ∷ 2 ∷ []
+forumPolicies = oid (2 ∷ 23 ∷ 140 ∷ 1 ∷ 2 ∷ [])
 
 -- n of a PolicyInformation that names a policy 2.23.140.1.2.n with n below 128, 0 if it names another: 410 asks for "2.23.140.1.2.1 (1) or
 -- 2.23.140.1.2.2 (2)", 1 for domain validation, 2 for organization validation
@@ -39,9 +40,9 @@ forumArc s h = arcBelow forumPolicies (contentsOf s (firstIn s h))
 abbrev pub qualifiersOf : List ℕ → Head → Head
 qualifiersOf s policy = secondIn s policy
 
--- id-qt-cps, 1.3.6.1.5.5.7.2.1
+-- id-qt-cps
 abbrev pub practiceStatement : List ℕ
-practiceStatement = 0x2B ∷ 6 ∷ 1 ∷ 5 ∷ 5 ∷ 7 ∷ 2 ∷ 1 ∷ []
+practiceStatement = oid (1 ∷ 3 ∷ 6 ∷ 1 ∷ 5 ∷ 5 ∷ 7 ∷ 2 ∷ 1 ∷ [])
 
 -- 411 "each qualifier other than 1.3.6.1.5.5.7.2.1": the PolicyQualifierInfo h is one
 unfoldable pub otherQualifier : List ℕ → Head → Bool

@@ -1,16 +1,16 @@
 -- Rules 105 to 108 (document 01, "Rules on fields").
 use mathlib.Core.Bool.{Bool, not}
-use mathlib.Core.List.{List, [], _∷_}
+use mathlib.Core.List.{List, [], _∷_, _++_}
 use Prim.Native.Nat.{ℕ}
 use Rattle.der.specs.Comparing.{contentsAre, octetsAre, sameElement}
+use Rattle.der.specs.Oids.{oidElement}
 use Rattle.der.specs.declared.header.Head.{Head}
 use Rattle.certificate.specs.declared.fields.Certificate.{Certificate}
 use Rattle.report.specs.Rows.{Row, _⦂_, brokenAt}
 
--- the OBJECT IDENTIFIER 1.2.840.113549.1.1.11, sha256WithRSAEncryption, and then NULL
+-- the OBJECT IDENTIFIER sha256WithRSAEncryption, and then NULL, tag 5, without contents
 abbrev pub sha256Rsa : List ℕ
-sha256Rsa =
-    0x06 ∷ 0x09 ∷ 0x2A ∷ 0x86 ∷ 0x48 ∷ 0x86 ∷ 0xF7 ∷ 0x0D ∷ 0x01 ∷ 0x01 ∷ 0x0B ∷ 0x05 ∷ 0x00 ∷ []
+sha256Rsa = oidElement (1 ∷ 2 ∷ 840 ∷ 113549 ∷ 1 ∷ 1 ∷ 11 ∷ []) ++ 5 ∷ 0 ∷ []
 
 -- an AlgorithmIdentifier holds these and nothing else
 abbrev pub isSha256Rsa : List ℕ → Head → Bool

@@ -3,24 +3,25 @@ use mathlib.Core.List.{List, [], _∷_}
 use mathlib.Core.Bool.{Bool, _||_}
 use Prim.Native.Nat.{ℕ}
 use Rattle.der.specs.Comparing.{octetsAre}
+use Rattle.der.specs.Oids.{oidElement}
 use Rattle.der.specs.declared.header.Head.{Head}
 
 -- NULL: tag 5, no contents
 abbrev pub isNull : List ℕ → Head → Bool
-isNull s h = octetsAre s h (0x05 ∷ 0x00 ∷ [])
+isNull s h = octetsAre s h (5 ∷ 0 ∷ [])
 
 -- The curves that document 000 lists ("Server Authentication Certificate Profile", the full table, row "Subject Public Key Information"), as
--- OBJECT IDENTIFIERs (tag 6): "Curve P-256 {1.2.840.10045.3.1.7}"
+-- OBJECT IDENTIFIERs: "Curve P-256 {1.2.840.10045.3.1.7}"
 abbrev pub p256 : List ℕ
-p256 = 0x06 ∷ 0x08 ∷ 0x2A ∷ 0x86 ∷ 0x48 ∷ 0xCE ∷ 0x3D ∷ 0x03 ∷ 0x01 ∷ 0x07 ∷ []
+p256 = oidElement (1 ∷ 2 ∷ 840 ∷ 10045 ∷ 3 ∷ 1 ∷ 7 ∷ [])
 
 -- "Curve P-384 {1.3.132.0.34}"
 abbrev pub p384 : List ℕ
-p384 = 0x06 ∷ 0x05 ∷ 0x2B ∷ 0x81 ∷ 0x04 ∷ 0x00 ∷ 0x22 ∷ []
+p384 = oidElement (1 ∷ 3 ∷ 132 ∷ 0 ∷ 34 ∷ [])
 
 -- "Curve P-521 {1.3.132.0.35}"
 abbrev pub p521 : List ℕ
-p521 = 0x06 ∷ 0x05 ∷ 0x2B ∷ 0x81 ∷ 0x04 ∷ 0x00 ∷ 0x23 ∷ []
+p521 = oidElement (1 ∷ 3 ∷ 132 ∷ 0 ∷ 35 ∷ [])
 
 abbrev pub isCurve : List ℕ → Head → Bool
 isCurve s h = octetsAre s h p256 || (octetsAre s h p384 || octetsAre s h p521)

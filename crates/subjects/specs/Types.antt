@@ -4,11 +4,12 @@ use Prim.Native.Nat.{ℕ}
 use Rattle.der.specs.Arcs.{arcBelow}
 use Rattle.der.specs.Members.{firstIn, secondIn}
 use Rattle.der.specs.Contents.{contentsOf}
+use Rattle.der.specs.Oids.{oid}
 use Rattle.der.specs.declared.header.Head.{Head}
 
--- 2.5.4, below which X.520's attribute types are: CN is 3, C 6, ST 8, O 10, OU 11
+-- X.520's attribute types are below it: CN is 3, C 6, ST 8, O 10, OU 11
 abbrev pub attributeTypes : List ℕ
-attributeTypes = 85 ∷ 4 ∷ []
+attributeTypes = oid (2 ∷ 5 ∷ 4 ∷ [])
 
 -- the type is the first member
 abbrev pub typeOf : List ℕ → Head → Head

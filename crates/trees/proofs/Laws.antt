@@ -1,6 +1,11 @@
 -- Laws of the definitions, by file.
 pub mod Numbers
 pub mod Identifier
+pub mod Integers
+pub mod Bits
+pub mod Arcs
+pub mod Values
+pub mod Contents
 pub mod Lengths
 pub mod Element
 pub mod Walks

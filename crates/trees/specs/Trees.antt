@@ -1,12 +1,14 @@
 -- Elements as X.690 has them: trees, their encoding, and what is asked of them. Nothing here reads octets by their place.
 use mathlib.Core.Path.{_≡_}
 use mathlib.Core.List.{List, [], _∷_, _++_}
-use mathlib.Core.Bool.{true, false, cond}
-use Prim.Native.Nat.{ℕ, zero, suc, _+_, _*_, _-_, _%_, _/_, _<_, max}
+use mathlib.Core.Bool.{true, cond}
+use Prim.Native.Nat.{ℕ, zero, suc, _+_, _*_, _-_, _<_, max}
 use lib.ListN.{length}
 use lib.Dec.{ltb}
+use Rattle.trees.specs.Numbers.{numberOctets}
+use Rattle.trees.specs.Values.{Says}
 use Rattle.octets.specs.Octets.{Octets}
-use Rattle.der.specs.Contents.{holdsElements, primitiveOk}
+use Rattle.der.specs.Contents.{holdsElements}
 use Rattle.der.specs.Order.{octetsLe}
 
 -- ---- trees
@@ -43,14 +45,6 @@ classBits private = 3
 abbrev pub identifierOctet : ℕ → Tag → ℕ
 identifierOctet form tag = 64 * classBits (tag .class) + (32 * form + tag .number)
 
--- a number in the fewest octets, the high one first, and then the octets `after`
-unfoldable pub numberBy : ℕ → ℕ → List ℕ → List ℕ
-numberBy zero n after = after
-numberBy (suc fuel) n after = elim (ltb n 256) [ true ↦ n ∷ after | false ↦ numberBy fuel (n / 256) (n % 256 ∷ after) ]
-
-unfoldable pub numberOctets : ℕ → List ℕ
-numberOctets n = numberBy (suc n) n []
-
 -- The length octets: below 128 one (8.1.3.4), else the number of those that follow, with bit 8 set, and those, which say the length
 -- (8.1.3.5). The definite form, in the fewest octets (10.1).
 unfoldable pub lengthOctets : ℕ → List ℕ
@@ -84,11 +78,11 @@ TagOk tag = (tag .number < 31) × (tag ≡ reserved → ⊥)
 abbrev pub LengthOk : List ℕ → Type 0
 LengthOk contents = length (numberOctets (length contents)) < 127
 
--- A universal type's contents are right (8.2 to 8.19, 11.1, 11.2), and so is its form: 8, 11, 16, 17 and 29 are constructed, all others primitive,
--- since no string is in pieces (10.2).
+-- The contents of a universal type are those of a value of it (specs/Values.antt), and its form is right: 8, 11, 16, 17 and 29 are constructed, all
+-- others primitive, since no string is in pieces (10.2).
 unfoldable mutual
   pub Good : Tree → Type 0
-  Good (primitive tag contents) = TagOk tag × LengthOk contents × (tag .class ≡ universal → primitiveOk (tag .number) contents ≡ true) × Octets contents
+  Good (primitive tag contents) = TagOk tag × LengthOk contents × (tag .class ≡ universal → Says (tag .number) contents) × Octets contents
   Good (constructed tag ts) = TagOk tag × LengthOk (encodeAll ts) × (tag .class ≡ universal → holdsElements (tag .number) ≡ true) × AllGood ts
 
   pub AllGood : Trees → Type 0

@@ -11,6 +11,7 @@ use Rattle.octets.specs.Octets.{octetsFrom}
 use Rattle.octets.specs.Numbers.{numberFrom}
 use Rattle.der.specs.Arcs.{arcBelow}
 use Rattle.der.specs.Header.{headOf}
+use Rattle.der.specs.Oids.{sevens, subidentifier, subidentifiers, oid}
 use Rattle.der.specs.declared.header.Head.{Head}
 
 -- what is said, and what is right
@@ -81,5 +82,5 @@ pub purposes-right : (purpose (6 ∷ 8 ∷ 0x2B ∷ 6 ∷ 1 ∷ 5 ∷ 5 ∷ 7 �
     (6 ∷ 8 ∷ 0x2B ∷ 6 ∷ 1 ∷ 5 ∷ 5 ∷ 7 ∷ 3 ∷ 9 ∷ []) ∷ purpose (6 ∷ 4 ∷ 0x55 ∷ 0x1D ∷ 37 ∷ 0 ∷ []) ∷ purpose
     (6 ∷ 7 ∷ 0x2B ∷ 6 ∷ 1 ∷ 5 ∷ 5 ∷ 7 ∷ 3 ∷ []) ∷ purpose (6 ∷ 9 ∷ 0x2B ∷ 6 ∷ 1 ∷ 5 ∷ 5 ∷ 7 ∷ 3 ∷ 1 ∷ 1 ∷ []) ∷ [])
     ≡ (1 ∷ 2 ∷ 9 ∷ 0 ∷ 0 ∷ 0 ∷ [])
-unfolding arcBelow headOf octetsFrom numberFrom
+unfolding arcBelow headOf octetsFrom numberFrom oid subidentifiers subidentifier sevens
 purposes-right = refl

@@ -13,7 +13,7 @@ use native.Mathlib.Omega.{arith}
 use lib.ListN.{length, getD}
 use lib.Dec.{eqb}
 use borrow.Author.Tests.{eq-eqb, eqb-true, eqb-false}
-use Rattle.certificate.specs.Extensions.{certificateExtension, accessIdentifier, nocheck, identifiers, positionFrom, slotBy, slotFor, slotOf}
+use Rattle.certificate.specs.Extensions.{accessIdentifier, nocheck, identifiers, positionFrom, slotBy, slotFor, slotOf}
 use Rattle.certificate.specs.Extensions.{identifierOf, sameIdentifier, seenBefore}
 use Rattle.certificate.specs.Slots.{slotCount, firstInSlot}
 use Rattle.octets.specs.Octets.{octetAt, octetsFrom}
@@ -23,6 +23,7 @@ use Rattle.octets.proofs.Laws.Same.{same-length, same-lists, lists-same}
 use Rattle.der.specs.Header.{childrenOf}
 use Rattle.der.specs.Comparing.{contentsAre}
 use Rattle.der.specs.Elements.{anyOf, isEmpty}
+use Rattle.der.specs.Oids.{sevens, subidentifier, subidentifiers, oid}
 use Rattle.der.specs.declared.header.Head.{Head}
 use Rattle.der.proofs.Laws.Any.{any-same, any-follows}
 use Rattle.der.proofs.Laws.Members.{children-before}
@@ -30,7 +31,11 @@ use Rattle.der.proofs.Laws.Searching.{Full, children-full, any-full}
 
 -- ---- slots
 
-three-same : (a b d n : ℕ) → sameBy exactly (a ∷ b ∷ d ∷ []) (certificateExtension n) ≡ ((eqb a 0x55 && eqb b 0x1D) && eqb d n)
+-- 2.5.29.n, n below 128
+abbrev short : ℕ → List ℕ
+short n = 0x55 ∷ 0x1D ∷ n ∷ []
+
+three-same : (a b d n : ℕ) → sameBy exactly (a ∷ b ∷ d ∷ []) (short n) ≡ ((eqb a 0x55 && eqb b 0x1D) && eqb d n)
 unfolding sameBy
 three-same a b d n = go (eqb a 0x55) (eqb b 0x1D) (eqb d n)
   where
@@ -42,7 +47,7 @@ three-same a b d n = go (eqb a 0x55) (eqb b 0x1D) (eqb d n)
 
 -- 2.5.29.d, or none of the table
 three : (a b d : ℕ) → slotFor (a ∷ b ∷ d ∷ []) ≡ cond (eqb a 0x55 && eqb b 0x1D) (slotBy d) 0
-unfolding slotFor
+unfolding slotFor oid subidentifiers subidentifier sevens
 three a b d =
     rw (
       same-length exactly (a ∷ b ∷ d ∷ []) accessIdentifier (λ e. omega arith),
@@ -76,11 +81,11 @@ slot-three s body n a b d l p q r =
     rw (l, e, ← p, ← q, ← r) (three a b d)
 
 other : (c : List ℕ) → (length c ≡ 3 → ⊥) → slotFor c ≡ cond (sameBy exactly c accessIdentifier) 8 (cond (sameBy exactly c nocheck) 10 0)
-unfolding slotFor
+unfolding slotFor oid subidentifiers subidentifier sevens
 other c h = rw (no 35, no 19, no 14, no 15, no 37, no 32, no 17, no 31)
   where
-    no : (n : ℕ) → sameBy exactly c (certificateExtension n) ≡ false
-    no n = same-length exactly c (certificateExtension n) h
+    no : (n : ℕ) → sameBy exactly c (short n) ≡ false
+    no n = same-length exactly c (short n) h
 
 -- x and y are whether it is one of the two longer identifiers
 pub slot-other : (s : List ℕ) (body n : ℕ) (x y : Bool) → (n ≡ 3 → ⊥) → x ≡ sameBy exactly (octetsFrom s body n) accessIdentifier

@@ -13,6 +13,7 @@ use Rattle.policies.specs.Policies.{isBelow, federalArc, policyBelow}
 use Rattle.octets.specs.Octets.{octetAt, octetsFrom}
 use Rattle.octets.specs.Same.{sameBy, exactly}
 use Rattle.der.specs.Members.{firstIn}
+use Rattle.der.specs.Oids.{sevens, subidentifier, subidentifiers, oid}
 use Rattle.der.specs.declared.header.Head.{Head}
 
 -- with more octets than the arc has, the first ones decide
@@ -42,5 +43,5 @@ below-law arc s a n = go (ltb (length arc) n) refl
 
 pub policy-law : (s : List ℕ) (h policy : Head) (n : ℕ) (begins : Bool) → policy ≡ firstIn s h → n ≡ policy .end - policy .body
     → begins ≡ sameBy exactly (octetsFrom s (policy .body) 9) federalArc → (ltb 9 n && begins) ≡ policyBelow s h
-unfolding policyBelow
+unfolding policyBelow oid subidentifiers subidentifier sevens
 policy-law s h policy n begins e f g = rw (g, f, ← e) (below-law federalArc s (policy .body) (policy .end - policy .body))

@@ -19,7 +19,7 @@ use Rattle.der.specs.Members.{missing, membersIn}
 use Rattle.der.specs.declared.header.Head.{Head}
 use Rattle.asn.specs.Grammar.{Form, fits}
 use Rattle.asn.specs.Answers.{certificateVerdict}
-use Rattle.asn.specs.Module.{oid, sequenceOf, valueOf, judged, policyInformation, generalName, accessDescription, distributionPoint}
+use Rattle.asn.specs.Module.{objectIdentifier, sequenceOf, valueOf, judged, policyInformation, generalName, accessDescription, distributionPoint}
 use Rattle.asn.specs.Module.{extKeyUsage, certificatePolicies, generalNames, authorityInfoAccess, cRLDistributionPoints}
 use Rattle.asn.specs.declared.fitting.Verdict.the-variants.{Fits}
 use Rattle.profiles.specs.declared.fields.Profile.{Profile}
@@ -97,7 +97,7 @@ module _ (s : List ℕ) (e : certificateVerdict s ≡ Fits) where
 
     purposes-ok : RowsOk (Element s) (purposeRows p s (slot 5))
     unfolding purposeRows valueOf judged extKeyUsage
-    purposes-ok = more-rows (at 5 (omega arith) 407 _) (more-rows (each 5 (omega arith) oid refl 408 _) no-rows)
+    purposes-ok = more-rows (at 5 (omega arith) 407 _) (more-rows (each 5 (omega arith) objectIdentifier refl 408 _) no-rows)
 
     policies-ok : RowsOk (Element s) (policyRows p s (slot 6))
     unfolding policyRows

@@ -15,7 +15,8 @@ use native.Mathlib.Omega.{arith}
 use lib.ListN.{length, length-append}
 use lib.Dec.{ltb}
 use borrow.Author.Tests.{ltb-true, ltb-false}
-use Rattle.trees.specs.Trees.{Tree, Trees, primitive, constructed, nothing, _then_, identifierOctet, numberOctets, lengthOctets, element}
+use Rattle.trees.specs.Numbers.{numberOctets}
+use Rattle.trees.specs.Trees.{Tree, Trees, primitive, constructed, nothing, _then_, identifierOctet, lengthOctets, element}
 use Rattle.trees.specs.Trees.{encode, encodeAll, LengthOk, Good, AllGood, height, heightAll, zeros, padded, Ascending, encodings}
 use Rattle.octets.specs.Octets.{Octets}
 use Rattle.der.specs.Header.{tagOk}

@@ -11,7 +11,8 @@ use native.Mathlib.Omega.{arith}
 use lib.ListN.{length}
 use lib.Dec.{ltb, leb, eqb}
 use borrow.Author.Tests.{lt-ltb, le-ltb, ltb-true, ltb-false, ne-eqb, le-leb, leb-true}
-use Rattle.trees.specs.Trees.{numberOctets, lengthOctets}
+use Rattle.trees.specs.Numbers.{numberOctets}
+use Rattle.trees.specs.Trees.{lengthOctets}
 use Rattle.der.specs.Header.{lengthOf, longOk, lengthOk, headerSize}
 use Rattle.octets.specs.Octets.{Octets, octetAt, octetsFrom}
 use Rattle.octets.specs.Numbers.{numberOf}

@@ -24,6 +24,7 @@ use Rattle.der.proofs.Laws.Children.{children-done, children-next}
 use Rattle.octets.specs.Octets.{octetsFrom}
 use Rattle.octets.proofs.Laws.Octets.{octets-long}
 use Rattle.octets.proofs.Laws.Parts.{part-same, part-cut}
+use Rattle.trees.proofs.Laws.Values.{says-test}
 use Rattle.trees.proofs.Laws.Identifier.{identifier-tag, identifier-form, tag-passes, type-kept}
 use Rattle.trees.proofs.Laws.Element.{Reads, element-reads}
 use Rattle.trees.proofs.Laws.Walks.{None, none-first, none-join, nodeOf, tree-plain, tree-list, elements-plain, elements-list, ok-fault}
@@ -96,7 +97,7 @@ read-plain d s at end tag c rest w g e =
     (record {
       sound =
           ap (first (faulty s)) walk ∙ none-first (faulty s) (nodeOf s d h) [] .1
-          (its-fault s d at end id c r (type-kept 0 tag (omega arith) low c (g .2)), refl);
+          (its-fault s d at end id c r (type-kept 0 tag (omega arith) low c (λ u. says-test (tag .number) c (g .2 u))), refl);
       same = tree-plain s d h form ∙ (λ i. primitive (identifier-tag 0 tag (omega arith) low i) (r .contents i));
       past = its-end s d at end id c r;
       part = r .octets;

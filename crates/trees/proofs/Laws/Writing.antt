@@ -4,7 +4,7 @@
 use mathlib.Core.Path.{_≡_, refl, sym, subst, _∙_}
 use mathlib.Core.List.{List, [], _++_}
 use mathlib.Core.Bool.{Bool, true, false, cond, _||_}
-use Prim.Native.Nat.{ℕ, zero, suc, _+_, _-_, _≤_}
+use Prim.Native.Nat.{ℕ, zero, suc, _+_, _-_, _%_, _≤_}
 use native.Mathlib.Omega.{arith}
 use lib.ListN.{length}
 use lib.Dec.{leb}
@@ -22,6 +22,7 @@ use Rattle.der.proofs.Laws.Walking.{children-chain}
 use Rattle.octets.specs.Octets.{Octets, octetAt, octetsFrom}
 use Rattle.octets.proofs.Laws.Tests.{and-l}
 use Rattle.octets.proofs.Laws.Parts.{part-same, part-meet}
+use Rattle.trees.proofs.Laws.Values.{test-says}
 use Rattle.trees.proofs.Laws.Identifier.{form-octet, octet-tag, kept-type}
 use Rattle.trees.proofs.Laws.Lengths.{part-octets}
 use Rattle.trees.proofs.Laws.Element.{head-passed, element-written}
@@ -83,7 +84,9 @@ module _ (s : List ℕ) (o : Octets s) (d at : ℕ) (tag : tagOk (octetAt s at) 
           good = (
             octet-tag (octetAt s at) (o at) tag,
             its-length (contentsOf s here) refl,
-            kept-type (octetAt s at) (o at) (contentsOf s here) false f kept,
+            (λ u.
+                test-says (octetAt s at % 32) (contentsOf s here) (part-octets s o (here .body) (here .end - here .body))
+                (kept-type (octetAt s at) (o at) (contentsOf s here) false f kept u)),
             part-octets s o (here .body) (here .end - here .body),
           );
           high = omega arith;

@@ -4,6 +4,7 @@ use mathlib.Core.Bool.{Bool, true, false, cond}
 use borrow.Author.Needs.{needs}
 use Rattle.certificate.specs.Extensions.{slotFor}
 use Rattle.octets.specs.Octets.{octetsFrom}
+use Rattle.der.specs.Oids.{sevens, subidentifier, subidentifiers, oid}
 use Rattle.certificate.proofs.Laws.Extensions.{slot-three, slot-other}
 use Rattle.certificate.proofs.extensions.slot_for.Statement.{statement}
 use Rattle.certificate.proofs.extensions.slot_for.Tie as tie
@@ -26,6 +27,7 @@ returns-2 c =
     sym (rw (c .if2 .left) at three)
 
 returns-3 : tie.Need-returns-3
+unfolding oid subidentifiers subidentifier sevens
 returns-3 c =
     let e = c .before in
     let a = e .before .before .before .before .args in
@@ -36,6 +38,7 @@ returns-3 c =
 last : (c : tie.After-equals2) (y : Bool) → c .equals2 .result ≡ y
     → let a = c .before .before .before .before .before .before .before .args in
     cond y 10 0 ≡ slotFor (octetsFrom (a .s .now) (a .body) (a .n))
+unfolding oid subidentifiers subidentifier sevens
 last c y same =
     let t = c .before .before in
     let e = t .before in

@@ -1,21 +1,22 @@
 -- `certificate::key::kind_of` meets its contract. Assumes nothing.
 use borrow.Author.Needs.{needs}
 use Rattle.certificate.specs.Key.{kindOf}
+use Rattle.der.specs.Oids.{sevens, subidentifier, subidentifiers, oid}
 use Rattle.certificate.proofs.key.kind_of.Statement.{statement}
 use Rattle.certificate.proofs.key.kind_of.Tie as tie
 
 returns : tie.Need-returns
-unfolding kindOf
+unfolding kindOf oid subidentifiers subidentifier sevens
 returns c = rw (← (c .before .contents-are .ensures), c .if1 .taken)
 
 returns-2 : tie.Need-returns-2
-unfolding kindOf
+unfolding kindOf oid subidentifiers subidentifier sevens
 returns-2 c =
     let r = c .before .before .before in
     rw (← (r .before .contents-are .ensures), r .if1 .left, ← (c .before .contents-are2 .ensures), c .if2 .taken)
 
 returns-3 : tie.Need-returns-3
-unfolding kindOf
+unfolding kindOf oid subidentifiers subidentifier sevens
 returns-3 c =
     let r = c .before .before .before in
     rw (← (r .before .contents-are .ensures), r .if1 .left, ← (c .before .contents-are2 .ensures), c .if2 .left)

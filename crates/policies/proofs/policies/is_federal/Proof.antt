@@ -1,10 +1,12 @@
 -- `policies::is_federal` meets its contract. Assumes nothing.
 use borrow.Author.Needs.{needs}
+use Rattle.der.specs.Oids.{sevens, subidentifier, subidentifiers, oid}
 use Rattle.policies.proofs.Laws.Policies.{policy-law}
 use Rattle.policies.proofs.policies.is_federal.Statement.{statement}
 use Rattle.policies.proofs.policies.is_federal.Tie as tie
 
 returns : tie.Need-returns
+unfolding oid subidentifiers subidentifier sevens
 returns c =
     let e = c .before in
     let p = e .before .before in

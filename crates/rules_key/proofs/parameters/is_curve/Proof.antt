@@ -1,9 +1,11 @@
 -- `rules_key::parameters::is_curve` meets its contract. Assumes nothing.
 use borrow.Author.Needs.{needs}
+use Rattle.der.specs.Oids.{sevens, subidentifier, subidentifiers, oid}
 use Rattle.rules_key.proofs.parameters.is_curve.Statement.{statement}
 use Rattle.rules_key.proofs.parameters.is_curve.Tie as tie
 
 returns : tie.Need-returns
+unfolding oid subidentifiers subidentifier sevens
 returns c =
     let p384 = c .before .before in
     let p256 = p384 .before .before in

@@ -1,0 +1,2 @@
+-- The statement, proved.
+pub mod Laws

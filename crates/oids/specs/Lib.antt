@@ -1,0 +1,2 @@
+-- What is said of the octets of identifiers, on their arcs.
+pub mod Statement
