@@ -9,6 +9,8 @@ const AT_A_FACT: &[&str] = &[
     "/p/proofs/f/Proof.antt:9:4: error: `returns`: expected type `h ≤ 16`, but this has type `h ≤ 17`",
     "/p/proofs/f/Proof.antt:9:4: error: `f-spec`: the two types differ only where one has `4`\n  expected type `x ≡ 4`\n  but this has type `x ≡ 5`",
     "/p/proofs/f/Proof.antt:9:4: error: `returns`: give a proof\n  `rw` has no last argument, so what it leaves must be a path whose two ends are equal",
+    "/p/proofs/f/Proof.antt:9:4: error: `returns`: on the face `i = 0` this λ's body is `a && b`\n  but the extension (path) type requires `a || b`",
+    "/p/proofs/f/Proof.antt:9:4: error: `returns`: list the missing equation\n  `cc`: the equations do not join `a and b` to `false`, by congruence",
     "/p/proofs/f/Proof.antt:9:4: error: `returns`: `omega`: the goal does not follow from what it read.",
     "/p/proofs/f/Proof.antt:9:4: error: `f-spec`: `omega`: the part `.0` of the goal does not follow from what it read.",
     "/p/proofs/f/Proof.antt:9:4: error: `returns`: `search`: no proof of `x ≡ 4`\n  was found.",
