@@ -134,6 +134,32 @@ fn a_torn_deck_is_refused_until_it_is_mended() {
     }
 }
 
+/// What the README says of records that were added behind a torn end.
+#[test]
+fn records_behind_a_torn_end_are_found_again_once_it_is_cut_out() {
+    let whole = whole_sample();
+    for torn in [1, 100, 511] {
+        let case = linted(&mut Random::for_purpose("records behind a torn end"));
+        let Some(desk) = Desk::with("behind", &[], case) else { return };
+        let later: Vec<u8> = [14, 15].iter().flat_map(|&number| desk.record(number).blocks().concat()).collect();
+        fs::write(&desk.deck, [&whole[..], &vec![0xA5; torn], &later[..]].concat()).expect("the deck is written");
+        let blocks = (whole.len() + later.len()) / BLOCK;
+        let lost = 5 + later.len() / BLOCK + 1;
+        assert_eq!(desk.counts(), format!("records 13 blocks {} lost {lost}", blocks + 1));
+        let (name, mended) = (desk.deck.display(), desk.folder.join("mended"));
+        let (position, length) = (whole.len() / BLOCK, desk.octets().len());
+        let cutting = format!(
+            "{{ head -c $((512 * {position})) {name}; tail -c +$((512 * {position} + {length} % 512 + 1)) {name}; }} > {}",
+            mended.display()
+        );
+        assert!(outcome(Command::new("sh").args(["-c", &cutting])).status.success());
+        fs::rename(&mended, &desk.deck).expect("the mended deck takes the other's place");
+        assert!(desk.octets() == [&whole[..], &later[..]].concat());
+        assert_eq!(desk.counts(), format!("records 15 blocks {blocks} lost 5"));
+        desk.finish();
+    }
+}
+
 #[test]
 fn a_refused_record_leaves_the_deck_alone() {
     let before = whole_sample();
