@@ -24,8 +24,8 @@ unfoldable pub extensionOf : List ℕ → Head → Extension
 extensionOf s h =
     record {
       place = h;
-      critical = eqb (secondIn s h .tag) 0x01;
-      value = past 0x01 s (secondIn s h) (h .end);
+      critical = eqb (secondIn s h .tag) 1;
+      value = past 1 s (secondIn s h) (h .end);
     }
 
 -- ---- the table

@@ -25,7 +25,7 @@ oid [] = []
 oid (x ∷ []) = []
 oid (x ∷ y ∷ arcs) = subidentifiers ((40 * x + y) ∷ arcs)
 
--- The whole element: tag 06, the length, and the contents. One octet says the length if it is below 128 (8.1.3.4), as of every identifier that a
+-- The whole element: tag 6, the length, and the contents. One octet says the length if it is below 128 (8.1.3.4), as of every identifier that a
 -- definition writes.
 abbrev pub oidElement : List ℕ → List ℕ
-oidElement arcs = 0x06 ∷ length (oid arcs) ∷ oid arcs
+oidElement arcs = 6 ∷ length (oid arcs) ∷ oid arcs

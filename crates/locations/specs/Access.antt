@@ -17,7 +17,7 @@ abbrev pub methodIdentifier : Method → List ℕ
 methodIdentifier Ocsp = oid (1 ∷ 3 ∷ 6 ∷ 1 ∷ 5 ∷ 5 ∷ 7 ∷ 48 ∷ 1 ∷ [])
 methodIdentifier CaIssuers = oid (1 ∷ 3 ∷ 6 ∷ 1 ∷ 5 ∷ 5 ∷ 7 ∷ 48 ∷ 2 ∷ [])
 
--- an OBJECT IDENTIFIER, tag 06, that is the method's
+-- an OBJECT IDENTIFIER, tag 6, that is the method's
 abbrev pub isMethod : List ℕ → Method → Head → Bool
 isMethod s method h = eqb (h .tag) 6 && contentsAre s h (methodIdentifier method)
 
