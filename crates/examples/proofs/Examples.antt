@@ -7,6 +7,7 @@ use Rattle.octets.specs.Numbers.{numberFrom}
 use Rattle.der.specs.Header.{headOf, childrenOf, childrenBy}
 use Rattle.der.specs.Contents.{arcsOk, primitiveOk, elementOk}
 use Rattle.der.specs.Integers.{integerOf}
+use Rattle.der.specs.Oids.{sevens, subidentifier, subidentifiers, oid}
 use Rattle.der.specs.Order.{octetsLe, ascendFrom}
 use Rattle.der.specs.Elements.{elementsOf}
 use Rattle.der.specs.Soundness.{first, soundness, stretchSoundness}
@@ -35,5 +36,5 @@ unfolding answer table ascii yearOf isWithin stretchSoundness soundness first el
     childrenOf childrenBy octetsFrom numberFrom integerOf timeOf ifReal dateAt digitsAndZ allDigits dateOk momentOf secondsOf daysOf beforeYear
     beforeMonth certificateVerdict valueOk fits certificate keyUsage judged valueOf isBelow otherBits anyBelow p12Deck askedOf _and_ between checkOf
     sound blockOf certificateOctets issuerOctets zeroFilled blocksOf blocks isPart isWhole run starts recordFrom lossOf foundAt lintedRoom itemAt
-    roomAt admissionOf sideJudgement bothSides judgementOf answerOf roomOf
+    roomAt admissionOf sideJudgement bothSides judgementOf answerOf roomOf oid subidentifiers subidentifier sevens
 examples = refl

@@ -10,11 +10,11 @@ use Rattle.octets.specs.Octets.{Octets}
 use Rattle.der.specs.Contents.{holdsElements}
 use Rattle.der.specs.Oids.{oid}
 
--- ---- BOOLEAN: one octet (8.2.1), FF if it is true (11.1), 0 if not (8.2.2)
+-- ---- BOOLEAN: one octet (8.2.1), all bits 1 if it is true (11.1), 0 if not (8.2.2)
 
 abbrev pub booleanOctets : Bool → List ℕ
-booleanOctets true = 0xFF ∷ []
-booleanOctets false = 0x00 ∷ []
+booleanOctets true = 255 ∷ []
+booleanOctets false = 0 ∷ []
 
 -- ---- INTEGER: a two's complement binary number (8.3.3) in the fewest octets (8.3.2), so that bit 8 of the first is the sign. The number
 -- −(n + 1), negsuc n, is n with every bit the other way round. ENUMERATED: the same (8.4).
