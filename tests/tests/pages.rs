@@ -8,7 +8,6 @@ use std::process::Command;
 
 /// Texts in backquotes that no rule below takes, each with the reason why it may stand there.
 const EXCEPTIONS: &[(&str, &[&str])] = &[
-    ("the crate that states the three demands, and what it declares", DEMANDS),
     (
         "words of the language and of its kit",
         &["r ≡ definition (inputs)", "(λ c κs. tt)", "tie.spec", "now (s .exit)", "os::fail"],
@@ -21,26 +20,6 @@ const EXCEPTIONS: &[(&str, &[&str])] = &[
         &["memcpy", "pthread_getattr_np", "ca-certificates", "RUSTFLAGS=\"-C link-arg=..\""],
     ),
     ("the operating system's", &["/proc/self/maps"]),
-];
-
-const DEMANDS: &[&str] = &[
-    "demands",
-    "Demand1",
-    "Demand2",
-    "Demand3",
-    "demand-1",
-    "demand-2",
-    "demand-3",
-    "lintTable",
-    "specs/First.antt",
-    "Second",
-    "Third",
-    "crates/demands/specs/First.antt",
-    "crates/demands/specs/Second.antt",
-    "crates/demands/specs/Third.antt",
-    "crates/demands/proofs/Laws/First.antt",
-    "crates/demands/proofs/Laws/Second.antt",
-    "crates/demands/proofs/Laws/Third.antt",
 ];
 
 /// Words with which a command line begins.

@@ -3,3 +3,4 @@ pub mod Tables
 pub mod First
 pub mod Second
 pub mod Third
+pub mod Uniqueness

@@ -1,7 +1,7 @@
 -- Every example of the table holds, by computation. Assumes nothing.
 use mathlib.Core.Path.{_≡_, refl}
 use mathlib.Core.List.{map}
-use Rattle.examples.specs.Table.{Example, ascii, yearOf, isWithin, p12Deck, answer, table}
+use Rattle.examples.specs.Table.{Example, yearOf, isWithin, p12Deck, answer, table}
 use Rattle.octets.specs.Octets.{octetsFrom}
 use Rattle.octets.specs.Numbers.{numberFrom}
 use Rattle.der.specs.Header.{headOf, childrenOf, childrenBy}
@@ -27,14 +27,19 @@ use Rattle.blocks.specs.Block.{checkOf, sound, blockOf}
 use Rattle.blocks.specs.Record.{certificateOctets, issuerOctets}
 use Rattle.writer.specs.Cutting.{zeroFilled, blocksOf}
 use Rattle.reader.specs.Runs.{blocks, isPart, isWhole, run, starts, recordFrom}
-use Rattle.reader.specs.Events.{lossOf}
+use Rattle.reader.specs.Events.{lossOf, events}
+use Rattle.reader.specs.Counting.{tallyOf}
+use Rattle.texts.specs.Texts.{word, decimal, digitsBy}
+use Rattle.listing.specs.Lines.{recordLine, refusalText, lostLine, totalLine}
+use Rattle.listing.specs.Listing.{findingLines, recordLines, listingOf, printed}
 use Rattle.reader.specs.Finding.{foundAt}
 use Rattle.reader.specs.Stepping.{lintedRoom, itemAt, roomAt}
 
 pub examples : map (λ (e : Example). answer (e .asked)) table ≡ map (λ (e : Example). e .answered) table
-unfolding answer table ascii yearOf isWithin stretchSoundness soundness first elementsOf elementOk primitiveOk arcsOk ascendFrom octetsLe headOf
+unfolding answer table yearOf isWithin stretchSoundness soundness first elementsOf elementOk primitiveOk arcsOk ascendFrom octetsLe headOf
     childrenOf childrenBy octetsFrom numberFrom integerOf timeOf ifReal dateAt digitsAndZ allDigits dateOk momentOf secondsOf daysOf beforeYear
     beforeMonth certificateVerdict valueOk fits certificate keyUsage judged valueOf isBelow otherBits anyBelow p12Deck askedOf _and_ between checkOf
     sound blockOf certificateOctets issuerOctets zeroFilled blocksOf blocks isPart isWhole run starts recordFrom lossOf foundAt lintedRoom itemAt
-    roomAt admissionOf sideJudgement bothSides judgementOf answerOf roomOf oid subidentifiers subidentifier sevens
+    roomAt admissionOf sideJudgement bothSides judgementOf answerOf roomOf oid subidentifiers subidentifier sevens printed listingOf recordLines
+    recordLine refusalText findingLines lostLine totalLine word decimal digitsBy tallyOf events
 examples = refl

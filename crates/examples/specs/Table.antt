@@ -3,14 +3,14 @@
 use mathlib.Core.Bool.{Bool, true, false}
 use mathlib.Core.List.{List, [], _∷_, _++_}
 use Prim.Native.Nat.{ℕ}
-use Prim.Native.Char.{code}
-use Prim.Native.String.{String, [] as end, _∷_ as _then_}
+use Prim.Native.String.{String}
 use lib.ListN.{length, take, drop, replicate}
 use lib.IntN.{ℤ, pos, negsuc}
 use Rattle.der.specs.Header.{headOf}
 use Rattle.der.specs.Contents.{contentsOf}
 use Rattle.der.specs.Integers.{integerOf}
-use Rattle.der.specs.Soundness.{derSoundness, soundnessNumber, soundnessPlace}
+use Rattle.refusals.specs.declared.table.Values.{Values}
+use Rattle.texts.specs.Texts.{word}
 use Rattle.times.specs.Reads.{timeOf}
 use Rattle.times.specs.Validity.{dateOf, withinDaysOf}
 use Rattle.times.specs.declared.reading.Reading.{Reading}
@@ -23,7 +23,10 @@ use Rattle.certificate.specs.declared.key.KeyKind.the-variants.{Rsa, EllipticCu
 use Rattle.rules_values.specs.Usage.{allowedUsage}
 use Rattle.usages.specs.Usage.{usageOf, otherBits}
 use Rattle.policies.specs.Policies.{isBelow, federalArc}
-use Rattle.asn.specs.Answers.{certificateVerdict, verdictNumber, verdictPlace, valueOk}
+use Rattle.asn.specs.Answers.{valueOk}
+use Rattle.lint.specs.Refusals.{answerValues}
+use Rattle.lint.specs.Answers.{answerOf}
+use Rattle.listing.specs.Listing.{printed}
 use Rattle.lint.specs.declared.reasons.Side.the-variants.{Certificate}
 use Rattle.lint.specs.declared.reasons.Refusal.the-variants.{NotCertificate}
 use Rattle.blocks.specs.Block.{blockOf}
@@ -35,10 +38,8 @@ use Rattle.lint.specs.declared.linting.Answer.the-variants as Lint
 use Rattle.reader.specs.declared.stepping.Item.the-variants as Items
 
 pub data Query : Type 0 where
-  -- a side: is it refused by its encoding, and where?
-  encoding : List ℕ → Query
-  -- a side that is sound: is it refused by its form, and where?
-  form : List ℕ → Query
+  -- a certificate, with an issuer's that is none either, in profile 1 and no room: what does the linter answer?
+  linted : List ℕ → Query
   -- an INTEGER: which number is it?
   integer : List ℕ → Query
   -- a UTCTime: which year is it in?
@@ -55,21 +56,18 @@ pub data Query : Type 0 where
   check : ℕ → List ℕ → Query
   -- a deck, and a room for the linter: what does stepping through it hand out?
   reading : List ℕ → List ℕ → Query
+  -- a deck: what does the program print?
+  printing : List ℕ → Query
 
 pub data Reply : Type 0 where
-  -- a refusal by number and place; number 0 is none
-  refusal : ℕ → ℕ → Reply
+  -- a refusal by number, side and place
+  refusal : ℕ → ℕ → ℕ → Reply
   number : ℤ → Reply
   says : Bool → Reply
   octets : List ℕ → Reply
   handed : List Handed → Reply
   -- the question is about something that is none
   senseless : Reply
-
--- a text in ASCII as octets
-unfoldable pub ascii : String → List ℕ
-ascii end = []
-ascii (c then text) = code c ∷ ascii text
 
 unfoldable pub yearOf : Reading → Reply
 yearOf (Is t) = number (pos (dateOf t .year))
@@ -80,18 +78,21 @@ isWithin days (Is a) (Is b) = says (withinDaysOf (record { «not_before» = a; �
 isWithin days (Is a) Bad = senseless
 isWithin days Bad b = senseless
 
+abbrev pub toldBy : Values → Reply
+toldBy v = refusal (v .number) (v .side) (v .place)
+
 -- what the definitions answer
 unfoldable pub answer : Query → Reply
-answer (encoding s) = refusal (soundnessNumber (derSoundness s)) (soundnessPlace (derSoundness s))
-answer (form s) = refusal (verdictNumber (certificateVerdict s)) (verdictPlace (certificateVerdict s))
+answer (linted s) = toldBy (answerValues (answerOf s (0x30 ∷ 0x00 ∷ []) 1 []))
 answer (integer s) = number (integerOf (contentsOf s (headOf s 0 (length s))))
-answer (year text) = yearOf (timeOf 23 (ascii text))
-answer (within p a b) = isWithin (maxDays p) (timeOf 23 (ascii a)) (timeOf 23 (ascii b))
+answer (year text) = yearOf (timeOf 23 (word text))
+answer (within p a b) = isWithin (maxDays p) (timeOf 23 (word a)) (timeOf 23 (word b))
 answer (value slot s) = says (valueOk s slot 0 (length s))
 answer (below s) = says (isBelow federalArc s)
 answer (usage p kind s) = says (otherBits (usageOf s (headOf s 0 (length s))) (allowedUsage p kind))
 answer (check k p) = octets (drop 510 (blockOf k (length p) 0 (take 502 (zeroFilled p))))
 answer (reading deck room) = handed (walk (length (blocks deck)) deck 0 room)
+answer (printing deck) = octets (printed deck)
 
 pub record Example : Type 0 where
   pub paper : ℕ
@@ -101,8 +102,9 @@ pub record Example : Type 0 where
 abbrev P : ℕ → Query → Reply → Example
 P n q a = record { paper = n; asked = q; answered = a }
 
+-- sound, and its sets in order: of these examples none is a certificate
 abbrev sound : Reply
-sound = refusal 0 0
+sound = refusal 6 1 0
 
 -- "P12 record 1, data 01 00 02 30 00 30 00"
 abbrev p12 : List ℕ
@@ -124,21 +126,24 @@ p12Handed =
     ∷ record { position = 2; item = Items.Lost Short; report = [] }
     ∷ []
 
+-- "With input of the P12 block, a zero block and 100 more octets it prints all of this"
+abbrev p12Listing : String
+p12Listing = "record 1 profile 1 refused 6 side 1 at 0\nlost 1 unsound\nlost 2 short\nrecords 1 blocks 3 lost 2\n"
+
 -- P10 and P11 hold for both profiles of S.
 unfoldable pub table : List Example
 table =
-    P 1 (encoding (0x30 ∷ 0x00 ∷ [])) sound
-    ∷ P 1 (form (0x30 ∷ 0x00 ∷ [])) (refusal 6 0)
-    ∷ P 2 (encoding (0x30 ∷ 0x81 ∷ 0x00 ∷ [])) (refusal 4 0)
-    ∷ P 3 (encoding (0x30 ∷ 0x80 ∷ 0x00 ∷ 0x00 ∷ [])) (refusal 4 0)
-    ∷ P 4 (encoding (0x30 ∷ 0x00 ∷ 0x00 ∷ [])) (refusal 4 0)
-    ∷ P 5 (encoding (0x02 ∷ 0x02 ∷ 0x00 ∷ 0x7F ∷ [])) (refusal 4 0)
-    ∷ P 5 (encoding (0x02 ∷ 0x02 ∷ 0x00 ∷ 0x80 ∷ [])) sound
+    P 1 (linted (0x30 ∷ 0x00 ∷ [])) (refusal 6 1 0)
+    ∷ P 2 (linted (0x30 ∷ 0x81 ∷ 0x00 ∷ [])) (refusal 4 1 0)
+    ∷ P 3 (linted (0x30 ∷ 0x80 ∷ 0x00 ∷ 0x00 ∷ [])) (refusal 4 1 0)
+    ∷ P 4 (linted (0x30 ∷ 0x00 ∷ 0x00 ∷ [])) (refusal 4 1 0)
+    ∷ P 5 (linted (0x02 ∷ 0x02 ∷ 0x00 ∷ 0x7F ∷ [])) (refusal 4 1 0)
+    ∷ P 5 (linted (0x02 ∷ 0x02 ∷ 0x00 ∷ 0x80 ∷ [])) sound
     ∷ P 5 (integer (0x02 ∷ 0x02 ∷ 0x00 ∷ 0x80 ∷ [])) (number (pos 128))
-    ∷ P 5 (encoding (0x02 ∷ 0x01 ∷ 0x80 ∷ [])) sound
+    ∷ P 5 (linted (0x02 ∷ 0x01 ∷ 0x80 ∷ [])) sound
     ∷ P 5 (integer (0x02 ∷ 0x01 ∷ 0x80 ∷ [])) (number (negsuc 127))
-    ∷ P 6 (encoding (0x30 ∷ 0x03 ∷ 0x01 ∷ 0x01 ∷ 0x01 ∷ [])) (refusal 4 2)
-    ∷ P 7 (encoding (0x31 ∷ 0x06 ∷ 0x02 ∷ 0x01 ∷ 0x02 ∷ 0x02 ∷ 0x01 ∷ 0x01 ∷ [])) (refusal 5 0)
+    ∷ P 6 (linted (0x30 ∷ 0x03 ∷ 0x01 ∷ 0x01 ∷ 0x01 ∷ [])) (refusal 4 1 2)
+    ∷ P 7 (linted (0x31 ∷ 0x06 ∷ 0x02 ∷ 0x01 ∷ 0x02 ∷ 0x02 ∷ 0x01 ∷ 0x01 ∷ [])) (refusal 5 1 0)
     ∷ P 8 (below (0x60 ∷ 0x86 ∷ 0x48 ∷ 0x01 ∷ 0x65 ∷ 0x03 ∷ 0x02 ∷ 0x01 ∷ 0x03 ∷ [])) (says false)
     ∷ P 8 (below (0x60 ∷ 0x86 ∷ 0x48 ∷ 0x01 ∷ 0x65 ∷ 0x03 ∷ 0x02 ∷ 0x01 ∷ 0x03 ∷ 0x0D ∷ [])) (says true)
     ∷ P 9 (year "491231235959Z") (number (pos 2049))
@@ -155,4 +160,5 @@ table =
     ∷ P 11 (value 4 (0x03 ∷ 0x02 ∷ 0x00 ∷ 0x80 ∷ [])) (says false)
     ∷ P 12 (check 1 p12) (octets (0x05 ∷ 0x2E ∷ []))
     ∷ P 12 (reading p12Deck []) (handed p12Handed)
+    ∷ P 12 (printing p12Deck) (octets (word p12Listing))
     ∷ []

@@ -1,4 +1,4 @@
-// A record's data lies in several blocks; it is deskWith at the front of a desk.
+// A record's data lies in several blocks. It is gathered at the front of a desk, in one piece.
 ghost use mathlib.Core.Path.{_≡_};
 ghost use mathlib.Core.List.{_++_};
 ghost use Prim.Native.Nat.{_+_, _*_, _≤_};
