@@ -9,8 +9,7 @@ use mathlib.Core.Path.{_≡_}
 use Prim.Native.Nat.{ℕ, _*_}
 use lib.Dec.{eqb, leb}
 use lib.ListN.{length}
-use Rattle.refusals.specs.Table.{wrongCertificateLength, wrongIssuerLength, unknownProfile, notSoundDer, setOutOfOrder, notCertificate}
-use Rattle.refusals.specs.Table.{recordNumberZero, tooLittleRoom, onNeither, onCertificate, onIssuer, refused, unrefused}
+use Rattle.refusals.specs.Table.{wrongCertificateLength, wrongIssuerLength, unknownProfile, notSoundDer, setOutOfOrder, notCertificate, recordNumberZero, tooLittleRoom, onNeither, onCertificate, onIssuer, refused, unrefused}
 use Rattle.refusals.specs.declared.table.Values.{Values}
 use Rattle.der.specs.Soundness.{derSoundness, soundnessNumber, soundnessPlace}
 use Rattle.der.specs.declared.walk.Soundness.{Soundness}
@@ -29,11 +28,11 @@ use Rattle.lint.specs.Answers.{Answered}
 use Rattle.lint.specs.Statements.{WithinSide}
 use Rattle.lint.specs.declared.reasons.Refusal.{Refusal}
 use Rattle.lint.specs.declared.linting.Answer.{Answer}
-use Rattle.lint.specs.declared.linting.Answer.the-variants as Answers
 use Rattle.writer.specs.Values.{placingValues}
 use Rattle.writer.specs.Answers.{Written}
 use Rattle.writer.specs.declared.reasons.NotWritten.{NotWritten}
 use Rattle.writer.specs.declared.writing.Placing.{Placing}
+use Rattle.lint.specs.declared.linting.Answer.the-variants as Answers
 use Rattle.writer.specs.declared.writing.Placing.the-variants as Placings
 
 -- ---- the table

@@ -8,7 +8,7 @@ use mathlib.Core.List.{List, []}
 use mathlib.Core.Logic.{_↔_}
 use mathlib.Core.Path.{_≡_}
 use Prim.Native.Nat.{ℕ, _*_, _<_}
-use lib.ListN.{length, getD, drop}
+use lib.ListN.{getD, drop}
 use Rattle.der.specs.declared.header.Head.{Head}
 use Rattle.profiles.specs.Judged.{judges}
 use Rattle.profiles.specs.declared.fields.Profile.{Profile}

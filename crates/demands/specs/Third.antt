@@ -16,13 +16,13 @@ use Rattle.reader.specs.Runs.{blocks}
 use Rattle.reader.specs.Stepping.{Stepped, itemBlocks}
 use Rattle.reader.specs.Walking.{Handed, handedAt}
 use Rattle.reader.specs.declared.stepping.Item.{Item}
-use Rattle.reader.specs.declared.stepping.Item.the-variants as Items
 use Rattle.listing.specs.Lines.{totalLine}
 use Rattle.listing.specs.Listing.{linesOf, programRoom}
 use Rattle.listing.specs.Filling.{nothingListed, Writes}
 use Rattle.recovery.specs.Submitted.{Submitted}
 use Rattle.recovery.specs.Spoiling.{Spoiled}
 use Rattle.recovery.specs.Expected.{expected, OneBehindTheOther}
+use Rattle.reader.specs.declared.stepping.Item.the-variants as Items
 
 -- ---- "a deck of any records, written by our own writer and numbered 1, 2, 3 and on without a gap"
 

@@ -1,7 +1,7 @@
 -- Every example of the table holds, by computation. Assumes nothing.
 use mathlib.Core.Path.{_≡_, refl}
 use mathlib.Core.List.{map}
-use Rattle.examples.specs.Table.{Example, yearOf, isWithin, p12Deck, answer, table}
+use Rattle.examples.specs.Table.{Example, yearOf, brokenRules, validityBreaks, p12Deck, answer, table}
 use Rattle.octets.specs.Octets.{octetsFrom}
 use Rattle.octets.specs.Numbers.{numberFrom}
 use Rattle.der.specs.Header.{headOf, childrenOf, childrenBy}
@@ -19,6 +19,9 @@ use Rattle.asn.specs.Module.{certificate, keyUsage, judged, valueOf}
 use Rattle.asn.specs.Answers.{certificateVerdict, valueOk}
 use Rattle.usages.specs.Usage.{anyBelow, otherBits}
 use Rattle.policies.specs.Policies.{isBelow}
+use Rattle.report.specs.Rows.{brokenAt}
+use Rattle.rules_fields.specs.Period.{validityRows}
+use Rattle.rules_values.specs.Usage.{usageRows}
 use Rattle.profiles.specs.Fields.{askedOf}
 use Rattle.lint.specs.Judging.{sideJudgement, bothSides, admissionOf, judgementOf}
 use Rattle.lint.specs.Answers.{answerOf, roomOf}
@@ -36,7 +39,7 @@ use Rattle.reader.specs.Finding.{foundAt}
 use Rattle.reader.specs.Stepping.{lintedRoom, itemAt, roomAt}
 
 pub examples : map (λ (e : Example). answer (e .asked)) table ≡ map (λ (e : Example). e .answered) table
-unfolding answer table yearOf isWithin stretchSoundness soundness first elementsOf elementOk primitiveOk arcsOk ascendFrom octetsLe headOf
+unfolding answer table yearOf validityBreaks brokenRules validityRows usageRows brokenAt stretchSoundness soundness first elementsOf elementOk primitiveOk arcsOk ascendFrom octetsLe headOf
     childrenOf childrenBy octetsFrom numberFrom integerOf timeOf ifReal dateAt digitsAndZ allDigits dateOk momentOf secondsOf daysOf beforeYear
     beforeMonth certificateVerdict valueOk fits certificate keyUsage judged valueOf isBelow otherBits anyBelow p12Deck askedOf _and_ between checkOf
     sound blockOf certificateOctets issuerOctets zeroFilled blocksOf blocks isPart isWhole run starts recordFrom lossOf foundAt lintedRoom itemAt

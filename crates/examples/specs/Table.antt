@@ -12,22 +12,26 @@ use Rattle.der.specs.Integers.{integerOf}
 use Rattle.refusals.specs.declared.table.Values.{Values}
 use Rattle.texts.specs.Texts.{word}
 use Rattle.times.specs.Reads.{timeOf}
-use Rattle.times.specs.Validity.{dateOf, withinDaysOf}
+use Rattle.times.specs.Validity.{dateOf}
+use Rattle.times.specs.declared.validity.Validity.{Validity}
 use Rattle.times.specs.declared.reading.Reading.{Reading}
 use Rattle.times.specs.declared.reading.Reading.the-variants.{Is, Bad}
-use Rattle.profiles.specs.Fields.{maxDays}
+use Rattle.der.specs.declared.header.Head.{Head}
 use Rattle.profiles.specs.declared.fields.Profile.{Profile}
 use Rattle.profiles.specs.declared.fields.Profile.the-variants.{Domain, Organization}
 use Rattle.certificate.specs.declared.key.KeyKind.{KeyKind}
 use Rattle.certificate.specs.declared.key.KeyKind.the-variants.{Rsa, EllipticCurve}
-use Rattle.rules_values.specs.Usage.{allowedUsage}
-use Rattle.usages.specs.Usage.{usageOf, otherBits}
+use Rattle.certificate.specs.declared.fields.Certificate.{Certificate}
+use Rattle.certificate.specs.declared.slots.Slot.{Slot}
+use Rattle.report.specs.Rows.{Row, _⦂_}
+use Rattle.rules_fields.specs.Period.{validityRows}
+use Rattle.rules_extensions.specs.Slots.{rule340}
+use Rattle.rules_values.specs.Usage.{usageRows}
 use Rattle.policies.specs.Policies.{isBelow, federalArc}
 use Rattle.asn.specs.Answers.{valueOk}
 use Rattle.lint.specs.Refusals.{answerValues}
 use Rattle.lint.specs.Answers.{answerOf}
 use Rattle.listing.specs.Listing.{printed}
-use Rattle.lint.specs.declared.reasons.Side.the-variants.{Certificate}
 use Rattle.lint.specs.declared.reasons.Refusal.the-variants.{NotCertificate}
 use Rattle.blocks.specs.Block.{blockOf}
 use Rattle.writer.specs.Cutting.{zeroFilled, blocksOf, endToEnd}
@@ -35,6 +39,7 @@ use Rattle.reader.specs.Runs.{blocks}
 use Rattle.reader.specs.Walking.{Handed, walk}
 use Rattle.reader.specs.declared.finding.Loss.the-variants.{Short, Unsound}
 use Rattle.lint.specs.declared.linting.Answer.the-variants as Lint
+use Rattle.lint.specs.declared.reasons.Side.the-variants as Sides
 use Rattle.reader.specs.declared.stepping.Item.the-variants as Items
 
 pub data Query : Type 0 where
@@ -44,13 +49,11 @@ pub data Query : Type 0 where
   integer : List ℕ → Query
   -- a UTCTime: which year is it in?
   year : String → Query
-  -- two UTCTimes: do they keep 111 in this profile?
-  within : Profile → String → String → Query
-  -- a slot of the table of extensions and a value: is it of its type?
-  value : ℕ → List ℕ → Query
+  -- the two UTCTimes of a validity: which of 109 to 111 does it break in this profile?
+  validity : Profile → String → String → Query
   -- the contents of a policy's identifier: is it below the arc of rule 409?
   below : List ℕ → Query
-  -- a key usage: does it break 405 in this profile with this kind of key?
+  -- the value of a key usage: which of 344, 404 and 405 does it break in this profile with this kind of key?
   usage : Profile → KeyKind → List ℕ → Query
   -- the octets of a record of this number: which check has its first block?
   check : ℕ → List ℕ → Query
@@ -64,6 +67,8 @@ pub data Reply : Type 0 where
   refusal : ℕ → ℕ → ℕ → Reply
   number : ℤ → Reply
   says : Bool → Reply
+  -- these rules, and none of the others that were asked about
+  breaks : List ℕ → Reply
   octets : List ℕ → Reply
   handed : List Handed → Reply
   -- the question is about something that is none
@@ -73,10 +78,56 @@ unfoldable pub yearOf : Reading → Reply
 yearOf (Is t) = number (pos (dateOf t .year))
 yearOf Bad = senseless
 
-unfoldable pub isWithin : ℕ → Reading → Reading → Reply
-isWithin days (Is a) (Is b) = says (withinDaysOf (record { «not_before» = a; «not_after» = b }) days)
-isWithin days (Is a) Bad = senseless
-isWithin days Bad b = senseless
+-- the rules that are broken somewhere
+abbrev pub ifBroken : ℕ → List Head → List ℕ → List ℕ
+ifBroken rule [] others = others
+ifBroken rule (h ∷ hs) others = rule ∷ others
+
+unfoldable pub brokenRules : List Row → List ℕ
+brokenRules [] = []
+brokenRules (r ∷ rs) = ifBroken (r .rule) (r .broken) (brokenRules rs)
+
+-- a certificate of this validity, of which nothing else is asked
+abbrev pub certificateWith : Validity → Certificate
+certificateWith v =
+    let h : Head = record { at = 0; tag = 48; body = 2; end = 2; sound = true } in
+    record {
+      tbs = h;
+      version = h;
+      serial = h;
+      inner = h;
+      issuer = h;
+      period = h;
+      «not_before» = h;
+      «not_after» = h;
+      subject = h;
+      key = h;
+      extensions = h;
+      outer = h;
+      validity = v;
+    }
+
+unfoldable pub validityBreaks : Profile → Reading → Reading → Reply
+validityBreaks p (Is a) (Is b) = breaks (brokenRules (validityRows p (certificateWith (record { «not_before» = a; «not_after» = b }))))
+validityBreaks p (Is a) Bad = senseless
+validityBreaks p Bad b = senseless
+
+-- an OCTET STRING that holds these octets, and slot 4 with it
+abbrev pub heldOctets : List ℕ → List ℕ
+heldOctets value = 4 ∷ length value ∷ value
+
+abbrev pub usageSlot : List ℕ → Slot
+usageSlot s =
+    record {
+      place = headOf s 0 (length s);
+      critical = true;
+      holder = headOf s 0 (length s);
+      element = headOf s 2 (length s);
+      good = valueOk s 4 2 (length s);
+    }
+
+abbrev pub usageBreaks : Profile → KeyKind → List ℕ → Reply
+usageBreaks p kind s = breaks (brokenRules (344 ⦂ rule340 (usageSlot s) ∷ usageRows p s kind (usageSlot s)))
 
 abbrev pub toldBy : Values → Reply
 toldBy v = refusal (v .number) (v .side) (v .place)
@@ -86,10 +137,9 @@ unfoldable pub answer : Query → Reply
 answer (linted s) = toldBy (answerValues (answerOf s (0x30 ∷ 0x00 ∷ []) 1 []))
 answer (integer s) = number (integerOf (contentsOf s (headOf s 0 (length s))))
 answer (year text) = yearOf (timeOf 23 (word text))
-answer (within p a b) = isWithin (maxDays p) (timeOf 23 (word a)) (timeOf 23 (word b))
-answer (value slot s) = says (valueOk s slot 0 (length s))
+answer (validity p a b) = validityBreaks p (timeOf 23 (word a)) (timeOf 23 (word b))
 answer (below s) = says (isBelow federalArc s)
-answer (usage p kind s) = says (otherBits (usageOf s (headOf s 0 (length s))) (allowedUsage p kind))
+answer (usage p kind value) = usageBreaks p kind (heldOctets value)
 answer (check k p) = octets (drop 510 (blockOf k (length p) 0 (take 502 (zeroFilled p))))
 answer (reading deck room) = handed (walk (length (blocks deck)) deck 0 room)
 answer (printing deck) = octets (printed deck)
@@ -119,7 +169,7 @@ abbrev p12Handed : List Handed
 p12Handed =
     record {
       position = 0;
-      item = Items.Record (record { number = 1; profile = 1; length = 7; answer = Lint.Refused (NotCertificate Certificate 0) });
+      item = Items.Record (record { number = 1; profile = 1; length = 7; answer = Lint.Refused (NotCertificate Sides.Certificate 0) });
       report = [];
     }
     ∷ record { position = 1; item = Items.Lost Unsound; report = [] }
@@ -148,16 +198,16 @@ table =
     ∷ P 8 (below (0x60 ∷ 0x86 ∷ 0x48 ∷ 0x01 ∷ 0x65 ∷ 0x03 ∷ 0x02 ∷ 0x01 ∷ 0x03 ∷ 0x0D ∷ [])) (says true)
     ∷ P 9 (year "491231235959Z") (number (pos 2049))
     ∷ P 9 (year "500101000000Z") (number (pos 1950))
-    ∷ P 10 (within Domain "240101000000Z" "250130000000Z") (says true)
-    ∷ P 10 (within Domain "240101000000Z" "250130000001Z") (says false)
-    ∷ P 10 (within Organization "240101000000Z" "250130000000Z") (says true)
-    ∷ P 10 (within Organization "240101000000Z" "250130000001Z") (says false)
-    ∷ P 11 (value 4 (0x03 ∷ 0x02 ∷ 0x05 ∷ 0xA0 ∷ [])) (says true)
-    ∷ P 11 (usage Domain Rsa (0x03 ∷ 0x02 ∷ 0x05 ∷ 0xA0 ∷ [])) (says false)
-    ∷ P 11 (usage Domain EllipticCurve (0x03 ∷ 0x02 ∷ 0x05 ∷ 0xA0 ∷ [])) (says true)
-    ∷ P 11 (usage Organization Rsa (0x03 ∷ 0x02 ∷ 0x05 ∷ 0xA0 ∷ [])) (says false)
-    ∷ P 11 (usage Organization EllipticCurve (0x03 ∷ 0x02 ∷ 0x05 ∷ 0xA0 ∷ [])) (says true)
-    ∷ P 11 (value 4 (0x03 ∷ 0x02 ∷ 0x00 ∷ 0x80 ∷ [])) (says false)
+    ∷ P 10 (validity Domain "240101000000Z" "250130000000Z") (breaks [])
+    ∷ P 10 (validity Domain "240101000000Z" "250130000001Z") (breaks (111 ∷ []))
+    ∷ P 10 (validity Organization "240101000000Z" "250130000000Z") (breaks [])
+    ∷ P 10 (validity Organization "240101000000Z" "250130000001Z") (breaks (111 ∷ []))
+    ∷ P 11 (usage Domain Rsa (0x03 ∷ 0x02 ∷ 0x05 ∷ 0xA0 ∷ [])) (breaks [])
+    ∷ P 11 (usage Domain EllipticCurve (0x03 ∷ 0x02 ∷ 0x05 ∷ 0xA0 ∷ [])) (breaks (405 ∷ []))
+    ∷ P 11 (usage Organization Rsa (0x03 ∷ 0x02 ∷ 0x05 ∷ 0xA0 ∷ [])) (breaks [])
+    ∷ P 11 (usage Organization EllipticCurve (0x03 ∷ 0x02 ∷ 0x05 ∷ 0xA0 ∷ [])) (breaks (405 ∷ []))
+    ∷ P 11 (usage Domain Rsa (0x03 ∷ 0x02 ∷ 0x00 ∷ 0x80 ∷ [])) (breaks (344 ∷ []))
+    ∷ P 11 (usage Organization EllipticCurve (0x03 ∷ 0x02 ∷ 0x00 ∷ 0x80 ∷ [])) (breaks (344 ∷ []))
     ∷ P 12 (check 1 p12) (octets (0x05 ∷ 0x2E ∷ []))
     ∷ P 12 (reading p12Deck []) (handed p12Handed)
     ∷ P 12 (printing p12Deck) (octets (word p12Listing))

@@ -4,6 +4,7 @@ use mathlib.Core.List.{List, [], _∷_, _++_}
 use mathlib.Core.Path.{_≡_, refl, sym, ap, _∙_}
 use Prim.Native.Nat.{ℕ}
 use lib.ListN.{length}
+use Rattle.demands.specs.First.{RefusalRow, firstThatApplies, refusalRow, foundTable, sideTable, foundUnder, lintTable, writeTable, Demand1}
 use Rattle.refusals.specs.Table.{wrongCertificateLength, wrongIssuerLength, tooLittleRoom, onNeither, onCertificate, onIssuer, refused, unrefused, row}
 use Rattle.refusals.specs.declared.table.Values.{Values}
 use Rattle.der.specs.Soundness.{derSoundness, soundnessNumber, soundnessPlace}
@@ -25,8 +26,6 @@ use Rattle.lint.proofs.Laws.Bounds.{refusal-inside}
 use Rattle.lint.proofs.Laws.Statements.{room-kept}
 use Rattle.writer.specs.Values.{placingValues, blocksRows, writeValues}
 use Rattle.writer.proofs.Laws.Statements.{room-kept as writer-room-kept}
-use Rattle.demands.specs.First.{RefusalRow, firstThatApplies, refusalRow, foundTable, sideTable, foundUnder, lintTable, writeTable}
-use Rattle.demands.specs.First.{Demand1}
 use Rattle.demands.proofs.Laws.Tables.{by-table}
 
 -- 4, 5 and 6 of a side, as rows one behind the other and as the table's

@@ -5,8 +5,9 @@ use mathlib.Core.Logic.{_↔_}
 use mathlib.Core.Path.{_≡_, refl, sym, ap, subst, _∙_}
 use Prim.Native.Nat.{ℕ, _*_, _<_}
 use native.Mathlib.Omega.{arith}
-use lib.ListN.{length, getD, drop}
+use lib.ListN.{length, drop}
 use lib.Seq.{drop-at}
+use Rattle.demands.specs.Second.{rulesOn, SaysBroken, ExactReport, Demand2}
 use Rattle.profiles.specs.Judged.{judges}
 use Rattle.profiles.specs.declared.fields.Profile.{Profile}
 use Rattle.certificate.specs.Issuer.{knownOf}
@@ -20,18 +21,15 @@ use Rattle.report.proofs.Laws.Order.{not-equal}
 use Rattle.rules.specs.Rules.{findings}
 use Rattle.rules.proofs.Laws.Findings.{finding-in, none-broken, findings-ordered}
 use Rattle.lint.specs.Judging.{judgementOf}
-use Rattle.lint.specs.Answers.{answerTo, answerOf, roomOf, Answered}
+use Rattle.lint.specs.Answers.{answerTo, answerOf, roomOf}
 use Rattle.lint.specs.declared.judging.Judgement.the-variants.{Accepted}
 use Rattle.lint.specs.declared.reasons.Refusal.the-variants.{NoRoom}
-use Rattle.lint.specs.declared.linting.Answer.{Answer}
 use Rattle.lint.specs.declared.linting.Answer.the-variants.{Report, Refused}
 use Rattle.lint.proofs.Laws.Accepted.{accepted-fits}
 use Rattle.lint.proofs.Laws.Order.{findings-back}
 use Rattle.lint.proofs.Laws.Statements.{findings-counted}
-use Rattle.places.specs.Statement.{AtElements}
 use Rattle.places.proofs.Laws.Theorem.{places}
 use Rattle.recovery.proofs.Laws.Back.{reads-back}
-use Rattle.demands.specs.Second.{rulesOn, SaysBroken, ExactReport, Demand2}
 
 -- a report is given where the room suffices
 enough : (es : List Entry) (room : List ℕ) (n : ℕ) → answerTo es room ≡ Report n → enoughRoom es room ≡ true

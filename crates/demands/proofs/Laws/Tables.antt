@@ -7,10 +7,10 @@ use mathlib.Core.Path.{_≡_, refl, sym, ap, subst, _∙_}
 use Prim.Native.Nat.{ℕ}
 use lib.Dec.{eqb}
 use borrow.Author.Tests.{eq-eqb}
+use Rattle.demands.specs.First.{RefusalRow, firstThatApplies, NoneApplies, GivenExactly, ByTable}
 use Rattle.octets.proofs.Laws.Tests.{and-l, and-r}
 use Rattle.refusals.specs.Table.{refused}
 use Rattle.refusals.specs.declared.table.Values.{Values}
-use Rattle.demands.specs.First.{RefusalRow, firstThatApplies, NoneApplies, GivenExactly, ByTable}
 
 abbrev same : RefusalRow → RefusalRow → Bool
 same a b = eqb (a .number) (b .number) && eqb (a .side) (b .side)

@@ -5,6 +5,7 @@ use mathlib.Core.Path.{_≡_, refl, sym, ap, ap₂, subst, _∙_}
 use Prim.Native.Nat.{ℕ, suc, _+_, _*_, _^_, _≤_, _<_}
 use native.Mathlib.Omega.{arith}
 use lib.ListN.{length, take}
+use Rattle.demands.specs.Third.{WrittenDeck, no-record, a-record, ReadThrough, at-end, an-item, isRecord, isLost, howMany, listed, Recovered, Demand3}
 use Rattle.blocks.proofs.Laws.Check.{changed-fails, exchanged-fails, zeros-fail, ones-fail}
 use Rattle.blocks.proofs.Laws.Logic.{below-or-not}
 use Rattle.writer.specs.Cutting.{blocksOf, endToEnd}
@@ -12,24 +13,21 @@ use Rattle.writer.proofs.Laws.Answers.{taken-only}
 use Rattle.writer.proofs.Laws.Statements.{rest-kept}
 use Rattle.reader.specs.Runs.{blocks}
 use Rattle.reader.specs.Events.{Event, record-at, lost-at, events, eventsFrom}
-use Rattle.reader.specs.Stepping.{itemBlocks, itemAt, roomAt}
+use Rattle.reader.specs.Stepping.{itemBlocks}
 use Rattle.reader.specs.Counting.{recordsIn, lostIn, tallyOf}
 use Rattle.reader.specs.Walking.{Handed, handedAt, allHandedOver}
 use Rattle.reader.specs.declared.stepping.Item.{Item}
-use Rattle.reader.specs.declared.stepping.Item.the-variants as Items
 use Rattle.reader.proofs.Laws.Places.{from-nil}
 use Rattle.reader.proofs.Laws.Passing.{item-past}
 use Rattle.reader.proofs.Laws.Walking.{item-ended, room-stays, handed-next, walked}
 use Rattle.listing.specs.Lines.{totalLine}
 use Rattle.listing.specs.Listing.{linesOf, listingOf, programRoom}
-use Rattle.listing.specs.Filling.{nothingListed, Writes}
 use Rattle.listing.proofs.Laws.Listing.{room-program, printed-listing}
 use Rattle.listing.proofs.Laws.Printing.{writes-printed}
-use Rattle.recovery.specs.Submitted.{Submitted, submittedOctets, Writable, AllWritable, written}
+use Rattle.recovery.specs.Submitted.{Submitted, submittedOctets, AllWritable, written}
 use Rattle.recovery.specs.Spoiling.{Spoiled}
 use Rattle.recovery.specs.Expected.{expected}
 use Rattle.recovery.proofs.Laws.Statement.{recovers, each-once}
-use Rattle.demands.specs.Third.{WrittenDeck, no-record, a-record, ReadThrough, at-end, an-item, isRecord, isLost, howMany, listed, Recovered, Demand3}
 
 -- ---- the deck
 
