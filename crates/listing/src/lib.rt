@@ -1,5 +1,5 @@
-// The listing of a deck, line by line as octets in a lent buffer (document 01, "The deck"). Every function puts its text
-// at place n of the buffer, as far as the buffer goes, and answers the place behind it.
+// The listing of a deck (document 01, "The deck") as octets in a lent buffer: the whole of it, a bufferful at a time. Every
+// function of `lines` puts its text at place n of the buffer, as far as the buffer goes, and answers the place behind it.
 mod filling;
 mod lines;
 
@@ -9,9 +9,3 @@ pub use filling::LISTING_SPACE;
 pub use filling::Progress;
 pub use filling::fill_listing;
 pub use filling::start;
-pub use lines::finding_line;
-pub use lines::item_lines;
-pub use lines::lost_line;
-pub use lines::record_line;
-pub use lines::too_long;
-pub use lines::total_line;
