@@ -9,7 +9,8 @@ use mathlib.Core.Path.{_≡_}
 use Prim.Native.Nat.{ℕ, _*_}
 use lib.Dec.{eqb, leb}
 use lib.ListN.{length}
-use Rattle.refusals.specs.Table.{wrongCertificateLength, wrongIssuerLength, unknownProfile, notSoundDer, setOutOfOrder, notCertificate, recordNumberZero, tooLittleRoom, onNeither, onCertificate, onIssuer, refused, unrefused}
+use Rattle.refusals.specs.Table.{wrongCertificateLength, wrongIssuerLength, unknownProfile, notSoundDer, setOutOfOrder, notCertificate}
+use Rattle.refusals.specs.Table.{recordNumberZero, tooLittleRoom, onNeither, onCertificate, onIssuer, refused, unrefused}
 use Rattle.refusals.specs.declared.table.Values.{Values}
 use Rattle.der.specs.Soundness.{derSoundness, soundnessNumber, soundnessPlace}
 use Rattle.der.specs.declared.walk.Soundness.{Soundness}

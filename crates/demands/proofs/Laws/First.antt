@@ -83,8 +83,8 @@ pub demand-1 : Demand1
 demand-1 =
     record {
       linter = λ certificate issuer profile room r last a. record {
-        tabled = by-table (notRefused certificate issuer room (askedOf profile)) refl (lintTable certificate issuer (askedOf profile) room) (answerValues r) refl
-            (a .values ∙ lint-tabled certificate issuer room profile);
+        tabled = by-table (notRefused certificate issuer room (askedOf profile)) refl (lintTable certificate issuer (askedOf profile) room)
+            (answerValues r) refl (a .values ∙ lint-tabled certificate issuer room profile);
         within = λ q e. refusal-inside certificate issuer profile room q (sym (a .told) ∙ e);
         kept = λ q e. a .bytes ∙ room-kept certificate issuer profile room q (sym (a .told) ∙ e);
       };
