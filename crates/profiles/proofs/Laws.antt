@@ -1,3 +1,4 @@
 -- Laws of the definitions, by file.
 pub mod Judged
 pub mod Extensions
+pub mod Slots

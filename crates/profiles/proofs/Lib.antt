@@ -1,3 +1,2 @@
 -- What the tables say, computed; laws of the table of rules.
-pub mod Examples
 pub mod Laws

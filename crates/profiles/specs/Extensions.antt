@@ -4,6 +4,7 @@ use mathlib.Core.List.{List, [], _∷_}
 use Prim.Native.Nat.{ℕ}
 use lib.Dec.{eqb}
 use lib.ListN.{getD}
+use Rattle.profiles.specs.Fields.{profileNumber}
 use Rattle.profiles.specs.declared.fields.Profile.{Profile}
 use Rattle.profiles.specs.declared.fields.Profile.the-variants.{Domain, Organization, Responder}
 use Rattle.profiles.specs.declared.extensions.Mark.{Mark}
@@ -46,7 +47,7 @@ isMiscritical Must critical = not critical
 isMiscritical MustNot critical = critical
 isMiscritical NotJudged critical = false
 
--- 300+s "an M missing"
+-- "an M"
 abbrev pub isMandatory : Mark → Bool
 isMandatory Mandatory = true
 isMandatory Optional = false
@@ -54,13 +55,29 @@ isMandatory Forbidden = false
 isMandatory Other = false
 isMandatory Unlisted = false
 
--- 320+s and 340+s: "an extension marked "no" or "other" gets neither"
+-- "an extension marked "no" or "other" gets neither" 320+s nor 340+s
 abbrev pub isJudged : Mark → Bool
 isJudged Mandatory = true
 isJudged Optional = true
 isJudged Forbidden = false
 isJudged Other = false
 isJudged Unlisted = false
+
+-- the profiles in whose column a test of the marks passes
+abbrev pub numbersWhere : (Profile → Bool) → List Profile → List ℕ
+numbersWhere test [] = []
+numbersWhere test (p ∷ ps) = cond (test p) (profileNumber p ∷ numbersWhere test ps) (numbersWhere test ps)
+
+abbrev pub profilesWhere : (Profile → Bool) → List ℕ
+profilesWhere test = numbersWhere test (Domain ∷ Organization ∷ Responder ∷ [])
+
+-- 300+s is for those in which the extension is "an M"
+abbrev pub mandatoryIn : ℕ → List ℕ
+mandatoryIn slot = profilesWhere (λ p. isMandatory (markOf p slot))
+
+-- 320+s and 340+s are for those in which it is not "no" or "other"
+abbrev pub listedIn : ℕ → List ℕ
+listedIn slot = profilesWhere (λ p. isJudged (markOf p slot))
 
 -- 362 ""no" or not in the table"
 abbrev pub isUnwanted : Mark → Bool

@@ -1,5 +1,5 @@
--- Which rule is judged in which profile (document 01: "S is profiles 1 and 2, O is 3"). Rules 301 to 350 go by its table of extensions: that the two tables
--- agree is computed in proofs/Examples.antt.
+-- Which rule is judged in which profile. Every rule says so itself, where its number stands (`_for_⦂_` in report's `Rows`); here the same by numbers, as the
+-- code looks it up. No function that judges a rule could be proved if the two differed.
 use mathlib.Core.Bool.{Bool, false, cond, _||_}
 use mathlib.Core.List.{List, [], _∷_}
 use Prim.Native.Nat.{ℕ}
@@ -7,96 +7,107 @@ use lib.Dec.{eqb}
 use Rattle.profiles.specs.Fields.{profileNumber}
 use Rattle.profiles.specs.declared.fields.Profile.{Profile}
 
+-- "S is profiles 1 and 2, O is 3"
+abbrev pub S : List ℕ
+S = 1 ∷ 2 ∷ []
+
+abbrev pub O : List ℕ
+O = 3 ∷ []
+
+-- a rule without a letter holds in all
+abbrev pub everyProfile : List ℕ
+everyProfile = 1 ∷ 2 ∷ 3 ∷ []
+
 -- a rule, and the profiles that judge it
 abbrev pub ruleTable : List (ℕ × List ℕ)
 ruleTable =
     -- fields
-    (101, 1 ∷ 2 ∷ 3 ∷ [])
-    ∷ (102, 1 ∷ 2 ∷ 3 ∷ [])
-    ∷ (103, 1 ∷ 2 ∷ 3 ∷ [])
-    ∷ (104, 3 ∷ [])
-    ∷ (105, 1 ∷ 2 ∷ 3 ∷ [])
-    ∷ (106, 1 ∷ 2 ∷ 3 ∷ [])
-    ∷ (107, 1 ∷ 2 ∷ 3 ∷ [])
-    ∷ (108, 1 ∷ 2 ∷ 3 ∷ [])
-    ∷ (109, 1 ∷ 2 ∷ 3 ∷ [])
-    ∷ (110, 1 ∷ 2 ∷ 3 ∷ [])
-    ∷ (111, 1 ∷ 2 ∷ 3 ∷ [])
+    (101, everyProfile)
+    ∷ (102, everyProfile)
+    ∷ (103, everyProfile)
+    ∷ (104, O)
+    ∷ (105, everyProfile)
+    ∷ (106, everyProfile)
+    ∷ (107, everyProfile)
+    ∷ (108, everyProfile)
+    ∷ (109, everyProfile)
+    ∷ (110, everyProfile)
+    ∷ (111, everyProfile)
     -- subject
-    ∷ (112, 1 ∷ 2 ∷ 3 ∷ [])
-    ∷ (113, 1 ∷ 2 ∷ 3 ∷ [])
-    ∷ (114, 1 ∷ 2 ∷ 3 ∷ [])
-    ∷ (115, 1 ∷ 2 ∷ 3 ∷ [])
-    ∷ (116, 2 ∷ 3 ∷ [])
-    ∷ (117, 2 ∷ 3 ∷ [])
+    ∷ (112, everyProfile)
+    ∷ (113, everyProfile)
+    ∷ (114, everyProfile)
+    ∷ (115, everyProfile)
+    ∷ (116, 2 ∷ O)
+    ∷ (117, 2 ∷ O)
     ∷ (118, 2 ∷ [])
     ∷ (119, 2 ∷ [])
-    ∷ (120, 1 ∷ 2 ∷ [])
-    ∷ (121, 3 ∷ [])
+    ∷ (120, S)
+    ∷ (121, O)
     -- key
-    ∷ (201, 1 ∷ 2 ∷ 3 ∷ [])
-    ∷ (202, 1 ∷ 2 ∷ 3 ∷ [])
-    ∷ (203, 1 ∷ 2 ∷ [])
-    ∷ (204, 1 ∷ 2 ∷ 3 ∷ [])
-    ∷ (205, 1 ∷ 2 ∷ 3 ∷ [])
-    ∷ (206, 1 ∷ 2 ∷ 3 ∷ [])
-    ∷ (207, 3 ∷ [])
+    ∷ (201, everyProfile)
+    ∷ (202, everyProfile)
+    ∷ (203, S)
+    ∷ (204, everyProfile)
+    ∷ (205, everyProfile)
+    ∷ (206, everyProfile)
+    ∷ (207, O)
     -- an extension that is missing (300 + slot)
-    ∷ (301, 1 ∷ 2 ∷ 3 ∷ [])
-    ∷ (302, 1 ∷ 2 ∷ [])
-    ∷ (303, 1 ∷ 2 ∷ 3 ∷ [])
-    ∷ (304, 1 ∷ 2 ∷ 3 ∷ [])
-    ∷ (305, 1 ∷ 2 ∷ 3 ∷ [])
-    ∷ (306, 1 ∷ 2 ∷ 3 ∷ [])
-    ∷ (307, 1 ∷ 2 ∷ [])
-    ∷ (308, 1 ∷ 2 ∷ 3 ∷ [])
+    ∷ (301, everyProfile)
+    ∷ (302, S)
+    ∷ (303, everyProfile)
+    ∷ (304, everyProfile)
+    ∷ (305, everyProfile)
+    ∷ (306, everyProfile)
+    ∷ (307, S)
+    ∷ (308, everyProfile)
     ∷ (309, [])
-    ∷ (310, 3 ∷ [])
+    ∷ (310, O)
     -- its criticality (320 + slot)
-    ∷ (321, 1 ∷ 2 ∷ 3 ∷ [])
-    ∷ (322, 1 ∷ 2 ∷ [])
-    ∷ (323, 1 ∷ 2 ∷ 3 ∷ [])
-    ∷ (324, 1 ∷ 2 ∷ 3 ∷ [])
-    ∷ (325, 1 ∷ 2 ∷ 3 ∷ [])
-    ∷ (326, 1 ∷ 2 ∷ 3 ∷ [])
-    ∷ (327, 1 ∷ 2 ∷ 3 ∷ [])
-    ∷ (328, 1 ∷ 2 ∷ 3 ∷ [])
-    ∷ (329, 1 ∷ 2 ∷ 3 ∷ [])
-    ∷ (330, 3 ∷ [])
+    ∷ (321, everyProfile)
+    ∷ (322, S)
+    ∷ (323, everyProfile)
+    ∷ (324, everyProfile)
+    ∷ (325, everyProfile)
+    ∷ (326, everyProfile)
+    ∷ (327, everyProfile)
+    ∷ (328, everyProfile)
+    ∷ (329, everyProfile)
+    ∷ (330, O)
     -- its value (340 + slot)
-    ∷ (341, 1 ∷ 2 ∷ 3 ∷ [])
-    ∷ (342, 1 ∷ 2 ∷ [])
-    ∷ (343, 1 ∷ 2 ∷ 3 ∷ [])
-    ∷ (344, 1 ∷ 2 ∷ 3 ∷ [])
-    ∷ (345, 1 ∷ 2 ∷ 3 ∷ [])
-    ∷ (346, 1 ∷ 2 ∷ 3 ∷ [])
-    ∷ (347, 1 ∷ 2 ∷ 3 ∷ [])
-    ∷ (348, 1 ∷ 2 ∷ 3 ∷ [])
-    ∷ (349, 1 ∷ 2 ∷ 3 ∷ [])
-    ∷ (350, 3 ∷ [])
+    ∷ (341, everyProfile)
+    ∷ (342, S)
+    ∷ (343, everyProfile)
+    ∷ (344, everyProfile)
+    ∷ (345, everyProfile)
+    ∷ (346, everyProfile)
+    ∷ (347, everyProfile)
+    ∷ (348, everyProfile)
+    ∷ (349, everyProfile)
+    ∷ (350, O)
     -- extensions by their identifiers
-    ∷ (361, 1 ∷ 2 ∷ 3 ∷ [])
-    ∷ (362, 3 ∷ [])
-    ∷ (363, 1 ∷ 2 ∷ [])
+    ∷ (361, everyProfile)
+    ∷ (362, O)
+    ∷ (363, S)
     -- what values say
-    ∷ (401, 1 ∷ 2 ∷ 3 ∷ [])
-    ∷ (402, 1 ∷ 2 ∷ [])
-    ∷ (403, 1 ∷ 2 ∷ 3 ∷ [])
-    ∷ (404, 1 ∷ 2 ∷ 3 ∷ [])
-    ∷ (405, 1 ∷ 2 ∷ 3 ∷ [])
-    ∷ (407, 1 ∷ 2 ∷ 3 ∷ [])
-    ∷ (408, 1 ∷ 2 ∷ 3 ∷ [])
-    ∷ (409, 1 ∷ 2 ∷ 3 ∷ [])
-    ∷ (410, 1 ∷ 2 ∷ [])
-    ∷ (411, 1 ∷ 2 ∷ 3 ∷ [])
-    ∷ (412, 1 ∷ 2 ∷ 3 ∷ [])
-    ∷ (413, 1 ∷ 2 ∷ [])
-    ∷ (414, 1 ∷ 2 ∷ 3 ∷ [])
-    ∷ (415, 1 ∷ 2 ∷ [])
-    ∷ (416, 1 ∷ 2 ∷ 3 ∷ [])
-    ∷ (417, 1 ∷ 2 ∷ [])
-    ∷ (418, 1 ∷ 2 ∷ 3 ∷ [])
-    ∷ (419, 1 ∷ 2 ∷ 3 ∷ [])
+    ∷ (401, everyProfile)
+    ∷ (402, S)
+    ∷ (403, everyProfile)
+    ∷ (404, everyProfile)
+    ∷ (405, everyProfile)
+    ∷ (407, everyProfile)
+    ∷ (408, everyProfile)
+    ∷ (409, everyProfile)
+    ∷ (410, S)
+    ∷ (411, everyProfile)
+    ∷ (412, everyProfile)
+    ∷ (413, S)
+    ∷ (414, everyProfile)
+    ∷ (415, S)
+    ∷ (416, everyProfile)
+    ∷ (417, S)
+    ∷ (418, everyProfile)
+    ∷ (419, everyProfile)
     ∷ []
 
 -- every rule's number is below this
@@ -115,6 +126,10 @@ unfoldable pub isOneOf : ℕ → List ℕ → Bool
 isOneOf n [] = false
 isOneOf n (m ∷ ms) = eqb n m || isOneOf n ms
 
+-- the profile is one of these
+unfoldable pub judgedBy : Profile → List ℕ → Bool
+judgedBy p profiles = isOneOf (profileNumber p) profiles
+
 -- the profile judges the rule
-unfoldable pub judges : Profile → ℕ → Bool
-judges p rule = isOneOf (profileNumber p) (judgedIn rule)
+abbrev pub judges : Profile → ℕ → Bool
+judges p rule = judgedBy p (judgedIn rule)

@@ -1,31 +1,38 @@
 -- What the profiles ask of the values of extensions (document 01, "Rules on extensions"), by one arm a profile.
 use mathlib.Core.Bool.{Bool, false, _||_}
-use Prim.Native.Nat.{ℕ}
+use mathlib.Core.List.{List, [], _∷_}
+use Prim.Native.Nat.{ℕ, _+_, _-_, _^_}
 use lib.Dec.{eqb}
 use Rattle.profiles.specs.declared.fields.Profile.{Profile}
 use Rattle.profiles.specs.declared.fields.Profile.the-variants.{Domain, Organization, Responder}
 
--- ---- 405: the octet of key usage with the bit that may be set besides digitalSignature, bit 0 being the high one (X.690, 8.6.2.1)
+-- ---- 404 and 405: KeyUsage ::= BIT STRING { digitalSignature (0), .. keyEncipherment (2), .. keyAgreement (4), .. } (RFC 5280, 4.2.1.3), bits by their names
 
--- keyEncipherment (2)
+abbrev pub digitalSignature : ℕ
+digitalSignature = 0
+
 abbrev pub keyEncipherment : ℕ
-keyEncipherment = 0x20
+keyEncipherment = 2
 
--- keyAgreement (4)
 abbrev pub keyAgreement : ℕ
-keyAgreement = 0x08
+keyAgreement = 4
 
--- "keyEncipherment with RSA .. (S); none (O ..)"
-abbrev pub usageWithRsa : Profile → ℕ
-usageWithRsa Domain = keyEncipherment
-usageWithRsa Organization = keyEncipherment
-usageWithRsa Responder = 0
+-- what may be set besides digitalSignature: "keyEncipherment with RSA .. (S); none (O ..)"
+abbrev pub usageWithRsa : Profile → List ℕ
+usageWithRsa Domain = keyEncipherment ∷ []
+usageWithRsa Organization = keyEncipherment ∷ []
+usageWithRsa Responder = []
 
 -- "keyAgreement with EC (S); none (O ..)"
-abbrev pub usageWithCurve : Profile → ℕ
-usageWithCurve Domain = keyAgreement
-usageWithCurve Organization = keyAgreement
-usageWithCurve Responder = 0
+abbrev pub usageWithCurve : Profile → List ℕ
+usageWithCurve Domain = keyAgreement ∷ []
+usageWithCurve Organization = keyAgreement ∷ []
+usageWithCurve Responder = []
+
+-- the octet in which these of the first eight bits are set, bit 0 being the high one (X.690, 8.6.2.1)
+abbrev pub octetWith : List ℕ → ℕ
+octetWith [] = 0
+octetWith (k ∷ ks) = 2 ^ (7 - k) + octetWith ks
 
 -- ---- purposes, by their arcs below id-kp, 1.3.6.1.5.5.7.3 (RFC 5280, 4.2.1.12)
 

@@ -1,11 +1,11 @@
 // What the profiles ask of the values of extensions: one arm a profile.
 use crate::fields::Profile;
 ghost use mathlib.Core.Path.{_≡_};
-ghost use Rattle.profiles.specs.Values.{usageWithRsa, usageWithCurve, wantedPurpose, allowsPurpose, wantsForum};
+ghost use Rattle.profiles.specs.Values.{usageWithRsa, usageWithCurve, octetWith, wantedPurpose, allowsPurpose, wantsForum};
 
-// Rule 405: the octet of key usage with the bit that may be set besides digitalSignature, 0 for none.
+// Rule 405: the octet of key usage with the bits that may be set besides digitalSignature.
 pub fn usage_with_rsa(p: Profile) -> u8
-    ensures { λ r. ⌜ r ≡ usageWithRsa p ⌝ }
+    ensures { λ r. ⌜ r ≡ octetWith (usageWithRsa p) ⌝ }
 {
     match p {
         Profile::Domain => 0x20,
@@ -15,7 +15,7 @@ pub fn usage_with_rsa(p: Profile) -> u8
 }
 
 pub fn usage_with_curve(p: Profile) -> u8
-    ensures { λ r. ⌜ r ≡ usageWithCurve p ⌝ }
+    ensures { λ r. ⌜ r ≡ octetWith (usageWithCurve p) ⌝ }
 {
     match p {
         Profile::Domain => 0x08,

@@ -1,11 +1,12 @@
 -- Worked examples of the definitions, by computation: what each value says is beside it. Assumes nothing.
 use mathlib.Core.Path.{_≡_, refl}
 use mathlib.Core.List.{List, [], _∷_, map}
-use mathlib.Core.Bool.{Bool, true, false, not, _&&_}
+use mathlib.Core.Bool.{Bool, true, false}
 use Prim.Native.Nat.{ℕ}
 use lib.ListN.{length}
-use lib.Dec.{eqb}
-use Rattle.usages.specs.Usage.{bitAt, anyBelow, usageOf, digitalSignature, otherBits}
+use Rattle.usages.specs.Usage.{bitAt, anyBelow, usageOf, otherBits}
+use Rattle.profiles.specs.Judged.{isOneOf}
+use Rattle.profiles.specs.Values.{digitalSignature, keyEncipherment, keyAgreement}
 use Rattle.usages.specs.Purposes.{purposeArc}
 use Rattle.octets.specs.Octets.{octetsFrom}
 use Rattle.octets.specs.Numbers.{numberFrom}
@@ -33,13 +34,13 @@ signed s = bitAt (usageOf s (whole s)) digitalSignature
 
 -- for an RSA key, an EC key and another
 abbrev rsa : List ℕ → Bool
-rsa s = otherBits (usageOf s (whole s)) 32
+rsa s = otherBits (usageOf s (whole s)) (keyEncipherment ∷ [])
 
 abbrev ec : List ℕ → Bool
-ec s = otherBits (usageOf s (whole s)) 8
+ec s = otherBits (usageOf s (whole s)) (keyAgreement ∷ [])
 
 abbrev none : List ℕ → Bool
-none s = otherBits (usageOf s (whole s)) 0
+none s = otherBits (usageOf s (whole s)) []
 
 unfoldable pub usages : List Example
 usages =
@@ -58,18 +59,13 @@ usages =
     ∷ is (signed (3 ∷ 1 ∷ 0 ∷ [])) false
     ∷ is (none (3 ∷ 1 ∷ 0 ∷ [])) false
     ∷ is (none (3 ∷ 3 ∷ 7 ∷ 0x80 ∷ 0x80 ∷ [])) true
-    -- the weight 32 is keyEncipherment (2), and 8 is keyAgreement (4), and no bit besides
-    ∷ is (bitAt (32 ∷ []) 2) true
-    ∷ is (anyBelow (λ k. not (eqb k 2) && bitAt (32 ∷ []) k) 16) false
-    ∷ is (bitAt (8 ∷ []) 4) true
-    ∷ is (anyBelow (λ k. not (eqb k 4) && bitAt (8 ∷ []) k) 16) false
     ∷ []
 
 abbrev Right : List Example → Type 0
 Right es = map (λ (e : Example). e .said) es ≡ map (λ (e : Example). e .right) es
 
 pub usages-right : Right usages
-unfolding usages otherBits anyBelow headOf octetsFrom numberFrom
+unfolding usages otherBits anyBelow isOneOf headOf octetsFrom numberFrom
 usages-right = refl
 
 -- ---- purposes

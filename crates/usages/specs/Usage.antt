@@ -1,13 +1,15 @@
 -- Key usage, which rules 404 and 405 ask for: a named BIT STRING. The first contents octet says how many bits are unused (they are 0, X.690, 11.2.1); the bits
 -- follow, bit 0 the high bit of the first octet (8.6.2.1).
 use mathlib.Core.List.{List, [], _∷_}
-use mathlib.Core.Bool.{Bool, false, not, _&&_, _||_}
+use mathlib.Core.Bool.{Bool, false, cond, not, _&&_, _||_}
 use Prim.Native.Nat.{ℕ, zero, suc, _-_, _*_, _/_, _%_, _^_}
 use lib.ListN.{length}
 use lib.Dec.{eqb}
 use Rattle.octets.specs.Octets.{octetAt}
 use Rattle.der.specs.Contents.{contentsOf}
 use Rattle.der.specs.declared.header.Head.{Head}
+use Rattle.profiles.specs.Judged.{isOneOf}
+use Rattle.profiles.specs.Values.{digitalSignature}
 
 -- the octets of bits in the contents of a BIT STRING
 abbrev pub bitOctets : List ℕ → List ℕ
@@ -30,21 +32,26 @@ anySet bits = anyBelow (bitAt bits) (8 * length bits)
 abbrev pub usageOf : List ℕ → Head → List ℕ
 usageOf s v = bitOctets (contentsOf s v)
 
--- KeyUsage ::= BIT STRING { digitalSignature (0), .. keyEncipherment (2), .. keyAgreement (4), .. }; 404 "digitalSignature set" asks for this bit
-abbrev pub digitalSignature : ℕ
-digitalSignature = 0
+-- 404 "digitalSignature set" asks for this bit; 405 allows it, and besides it those of some names
+abbrev pub mayBeSet : List ℕ → ℕ → Bool
+mayBeSet names k = eqb k digitalSignature || isOneOf k names
 
--- Besides digitalSignature a bit is allowed if it is set in the octet `allowed`: 32 for keyEncipherment, 8 for keyAgreement, 0 for none.
-abbrev pub mayBeSet : ℕ → ℕ → Bool
-mayBeSet allowed k = eqb k digitalSignature || bitAt (allowed ∷ []) k
+abbrev pub otherBit : List ℕ → List ℕ → ℕ → Bool
+otherBit bits names k = not (mayBeSet names k) && bitAt bits k
 
-abbrev pub otherBit : List ℕ → ℕ → ℕ → Bool
-otherBit bits allowed k = not (mayBeSet allowed k) && bitAt bits k
+-- Some bit is set that may not be: 405 "no bit besides: keyEncipherment with RSA, keyAgreement with EC (S); none (O or another key)" is broken.
+unfoldable pub otherBits : List ℕ → List ℕ → Bool
+otherBits bits names = anyBelow (otherBit bits names) (8 * length bits)
+
+-- the numbers below n that pass the test
+unfoldable pub passingBelow : (ℕ → Bool) → ℕ → List ℕ
+passingBelow test zero = []
+passingBelow test (suc n) = cond (test n) (n ∷ passingBelow test n) (passingBelow test n)
+
+-- the bits that are set in one octet, by their numbers
+unfoldable pub bitsIn : ℕ → List ℕ
+bitsIn octet = passingBelow (bitAt (octet ∷ [])) 8
 
 -- the last bit of a is set, and that of b is not
 abbrev pub oddAlone : ℕ → ℕ → Bool
 oddAlone a b = not (eqb (b % 2) 1) && eqb (a % 2) 1
-
--- Some bit is set that may not be: 405 "no bit besides: keyEncipherment with RSA, keyAgreement with EC (S); none (O or another key)" is broken.
-unfoldable pub otherBits : List ℕ → ℕ → Bool
-otherBits bits allowed = anyBelow (otherBit bits allowed) (8 * length bits)

@@ -5,7 +5,8 @@ ghost use mathlib.Core.Path.{_≡_};
 ghost use mathlib.Core.List.{[], _∷_};
 ghost use Prim.Native.Nat.{_+_, _-_};
 ghost use Rattle.octets.specs.Octets.{octetsFrom};
-ghost use Rattle.usages.specs.Usage.{bitOctets, bitAt, anyBelow, anySet, usageOf, digitalSignature, otherBit, oddAlone, otherBits};
+ghost use Rattle.profiles.specs.Values.{digitalSignature};
+ghost use Rattle.usages.specs.Usage.{bitOctets, bitAt, anyBelow, anySet, usageOf, otherBit, oddAlone, otherBits, bitsIn};
 
 // Rule 404: whether digitalSignature is set.
 pub fn signs(s: &[u8], v: Head) -> bool
@@ -26,7 +27,7 @@ fn odd_alone(a: u8, b: u8) -> bool
 
 // Whether the first octet of bits has one, besides bit 0, that is not in `allowed`.
 fn other_in_first(bits: u8, allowed: u8) -> bool
-    ensures { λ r. ⌜ r ≡ anyBelow (otherBit (bits ∷ []) allowed) 8 ⌝ }
+    ensures { λ r. ⌜ r ≡ anyBelow (otherBit (bits ∷ []) (bitsIn allowed)) 8 ⌝ }
 {
     odd_alone(bits, allowed)
         | (odd_alone(bits / 2, allowed / 2)
@@ -60,7 +61,7 @@ fn any_later(s: &[u8], body: usize, n: usize) -> bool
 
 // Whether the BIT STRING with n contents octets from place `body` on has a bit that may not be set.
 fn other_bits(s: &[u8], body: usize, n: usize, allowed: u8) -> bool
-    ensures { λ r. ⌜ r ≡ otherBits (bitOctets (octetsFrom (now (s .entry)) body n)) allowed ⌝ }
+    ensures { λ r. ⌜ r ≡ otherBits (bitOctets (octetsFrom (now (s .entry)) body n)) (bitsIn allowed) ⌝ }
 {
     if n < 2 {
         return false;
@@ -71,10 +72,9 @@ fn other_bits(s: &[u8], body: usize, n: usize, allowed: u8) -> bool
     any_later(s, body, n)
 }
 
-// Rule 405: whether a bit is set besides digitalSignature and those of `allowed`, where 32 is keyEncipherment, 8
-// keyAgreement, and 0 none.
+// Rule 405: whether a bit is set besides digitalSignature and those that are set in `allowed`.
 pub fn other_usage(s: &[u8], v: Head, allowed: u8) -> bool
-    ensures { λ r. ⌜ r ≡ otherBits (usageOf (now (s .entry)) v) allowed ⌝ }
+    ensures { λ r. ⌜ r ≡ otherBits (usageOf (now (s .entry)) v) (bitsIn allowed) ⌝ }
 {
     let body = v.body;
     other_bits(s, body, octets::minus(v.end, body), allowed)

@@ -12,7 +12,7 @@ use lib.Dec.{ltb, eqb}
 use lib.ListN.{length}
 use borrow.Author.Tests.{eqb-true, ne-eqb, ltb-true, ltb-false}
 use Rattle.profiles.specs.Fields.{profileNumber}
-use Rattle.profiles.specs.Judged.{ruleTable, ruleLimit, rowOf, judgedIn, isOneOf, judges}
+use Rattle.profiles.specs.Judged.{ruleTable, ruleLimit, rowOf, judgedIn, isOneOf, judgedBy, judges}
 use Rattle.profiles.specs.Bits.{weight, hasBit}
 use Rattle.profiles.specs.declared.fields.Profile.{Profile}
 use Rattle.profiles.specs.declared.fields.Profile.the-variants.{Domain, Organization, Responder}
@@ -97,6 +97,6 @@ all-bits Organization = refl
 all-bits Responder = refl
 
 pub bit-right : (p : Profile) (rule : ℕ) → hasBit p (weight (judgedIn rule)) ≡ judges p rule
-unfolding judges judgedIn bitRight
+unfolding judgedBy judgedIn bitRight
 bit-right p rule =
     same-true (hasBit p (weight (rowOf ruleTable rule))) (isOneOf (profileNumber p) (rowOf ruleTable rule)) (row-bit p ruleTable rule (no-bit p) (all-bits p))
