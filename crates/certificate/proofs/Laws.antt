@@ -7,3 +7,4 @@ pub mod Inside
 pub mod Named
 pub mod Parts
 pub mod Values
+pub mod Standing

@@ -3,6 +3,7 @@ pub mod Fields
 pub mod Key
 pub mod Extensions
 pub mod Slots
+pub mod Standing
 pub mod Issuer
 pub mod Inside
 pub mod Named

@@ -7,23 +7,41 @@ use Rattle.der.specs.Members.{missing}
 use Rattle.certificate.specs.Fields.{certificateOf}
 use Rattle.certificate.specs.Key.{keyOf}
 use Rattle.certificate.specs.Slots.{emptySlot, slotsOf, hasRepeats}
+use Rattle.certificate.specs.Standing.{Standing, standingIn, overTable, standingAt, standingsBy}
 use Rattle.certificate.specs.Issuer.{Known, known, issuerOf}
 use Rattle.certificate.specs.declared.fields.Certificate.{Certificate}
 use Rattle.certificate.specs.declared.key.Key.{Key}
 use Rattle.certificate.specs.declared.slots.Slot.{Slot}
 use Rattle.facts.specs.declared.Facts.{Facts}
 
--- A certificate: its octets, its fields and its key; for each slot of the table of extensions the first extension in it, and whether any identifier is
--- repeated. Of its issuer what counts.
+-- A certificate: its octets, its fields and its key; how each extension of the table stands, and whether any identifier is repeated. Of its issuer what
+-- counts.
 pub record Case : Type 0 where
   pub octets : List ℕ
   pub fields : Certificate
   pub key : Key
-  pub slots : List Slot
+  pub table : List Standing
   pub repeated : Bool
   pub issuer : Known
 
--- what the code has read
+-- the case of a certificate whose issuer is known
+abbrev pub caseIn : List ℕ → Known → Case
+caseIn s k =
+    record {
+      octets = s;
+      fields = certificateOf s;
+      key = keyOf s (certificateOf s .key);
+      table = overTable (standingIn s (certificateOf s .extensions));
+      repeated = hasRepeats s (certificateOf s .extensions);
+      issuer = k;
+    }
+
+-- how the extension in slot k of the table stands
+abbrev pub extension : Case → ℕ → Standing
+extension f k = standingAt (f .table) k
+
+-- ---- as the code has it
+
 unfoldable pub factsOf : List ℕ → List ℕ → Facts
 factsOf s issuer =
     record {
@@ -34,32 +52,18 @@ factsOf s issuer =
       issuer = issuerOf issuer;
     }
 
+-- what stands in a slot; past the table there is nothing
+abbrev pub slotIn : List Slot → ℕ → Slot
+slotIn slots k = getD slots k (emptySlot (missing 0))
+
+-- the case that facts say
 abbrev pub caseOf : List ℕ → Facts → List ℕ → Case
 caseOf s f issuer =
     record {
       octets = s;
       fields = f .fields;
       key = f .key;
-      slots = f .slots;
+      table = standingsBy (slotIn (f .slots));
       repeated = f .repeated;
       issuer = known issuer (f .issuer);
     }
-
--- the case of a certificate whose issuer is known
-abbrev pub caseIn : List ℕ → Known → Case
-caseIn s k =
-    record {
-      octets = s;
-      fields = certificateOf s;
-      key = keyOf s (certificateOf s .key);
-      slots = slotsOf s (certificateOf s .extensions);
-      repeated = hasRepeats s (certificateOf s .extensions);
-      issuer = k;
-    }
-
--- what stands in a slot; past the table there is nothing
-abbrev pub slotIn : List Slot → ℕ → Slot
-slotIn slots k = getD slots k (emptySlot (missing 0))
-
-abbrev pub slot : Case → ℕ → Slot
-slot f k = slotIn (f .slots) k

@@ -12,11 +12,11 @@ ghost use Rattle.report.specs.Forms.{filter};
 ghost use Rattle.report.specs.Rows.{_⦂_, brokenAt, Puts};
 ghost use Rattle.forms.specs.Kinds.{ofKind};
 ghost use Rattle.forms.specs.Lists.{itemsWithin};
-ghost use Rattle.forms.specs.Values.{whereGood};
+ghost use Rattle.forms.specs.Values.{ifGood};
 
 // At the OCTET STRING.
 pub fn judge_value(room: &mut [u8], n: usize, p: Profile, rule: usize, v: Slot, bad: bool) -> usize
-    ensures { λ r. ⌜ Puts p (rule ⦂ whereGood v (brokenAt bad (v .holder)) ∷ []) n (now (room .entry)) r (now (room .exit)) ⌝ }
+    ensures { λ r. ⌜ Puts p (rule ⦂ ifGood v (brokenAt bad (v .holder)) ∷ []) n (now (room .entry)) r (now (room .exit)) ⌝ }
 {
     report::judge(room, n, p, rule, v.good & bad, v.holder)
 }
@@ -32,7 +32,7 @@ pub fn judge_items(
     v: Slot,
 ) -> usize
     ensures { λ r. ⌜ Puts p
-        (rule ⦂ whereGood v (filter (ofKind kind p (now (s .entry))) (membersIn (now (s .entry)) (v .element))) ∷ [])
+        (rule ⦂ ifGood v (filter (ofKind kind p (now (s .entry))) (membersIn (now (s .entry)) (v .element))) ∷ [])
         n (now (room .entry)) r (now (room .exit)) ⌝ }
 {
     if v.good {
@@ -54,7 +54,7 @@ pub fn judge_inner(
     v: Slot,
 ) -> usize
     ensures { λ r. ⌜ Puts p
-        (rule ⦂ whereGood v (filter (ofKind kind p (now (s .entry))) (itemsWithin nest (now (s .entry)) (v .element .body) (v .element .end))) ∷ [])
+        (rule ⦂ ifGood v (filter (ofKind kind p (now (s .entry))) (itemsWithin nest (now (s .entry)) (v .element .body) (v .element .end))) ∷ [])
         n (now (room .entry)) r (now (room .exit)) ⌝ }
 {
     if v.good {

@@ -4,11 +4,12 @@ use mathlib.Core.List.{List, [], _∷_}
 use Prim.Native.Nat.{ℕ}
 use Rattle.der.specs.Members.{membersIn}
 use Rattle.der.specs.declared.header.Head.{Head}
+use Rattle.profiles.specs.Judged.{S, O, everyProfile}
 use Rattle.profiles.specs.declared.fields.Profile.{Profile}
 use Rattle.forms.specs.Kinds.{isRepeat, isUnwantedIn, isOutOfPlaceIn}
 use Rattle.forms.specs.declared.extensions.Repeats.{Repeats}
 use Rattle.report.specs.Forms.{filter}
-use Rattle.report.specs.Rows.{Row, _⦂_}
+use Rattle.report.specs.Rows.{Row, _for_⦂_}
 
 -- what is known of repeats in a list: whether there are any
 abbrev pub repeatsIn : Head → Bool → Repeats
@@ -27,4 +28,8 @@ abbrev pub rule363 : Profile → List ℕ → Head → Bool → List Head
 rule363 p s list repeated = filter (isOutOfPlaceIn p (repeatsIn list repeated) s) (membersIn s list)
 
 unfoldable pub identifierRows : Profile → List ℕ → Head → Bool → List Row
-identifierRows p s list repeated = 361 ⦂ rule361 s list repeated ∷ 362 ⦂ rule362 p s list repeated ∷ 363 ⦂ rule363 p s list repeated ∷ []
+identifierRows p s list repeated =
+    361 for everyProfile ⦂ rule361 s list repeated
+    ∷ 362 for O ⦂ rule362 p s list repeated
+    ∷ 363 for S ⦂ rule363 p s list repeated
+    ∷ []

@@ -9,6 +9,6 @@ use Rattle.rules_extensions.specs.declared.slots.Question.the-variants.{
 
 unfoldable pub extensionRows : Profile → Case → List Row
 extensionRows p f =
-    rowsOver Missing p (listPlace (f .fields)) (f .slots)
-    ++ (rowsOver Criticality p (listPlace (f .fields)) (f .slots)
-    ++ (rowsOver Value p (listPlace (f .fields)) (f .slots) ++ identifierRows p (f .octets) (f .fields .extensions) (f .repeated)))
+    rowsOver Missing p (listPlace (f .fields)) (f .table)
+    ++ (rowsOver Criticality p (listPlace (f .fields)) (f .table)
+    ++ (rowsOver Value p (listPlace (f .fields)) (f .table) ++ identifierRows p (f .octets) (f .fields .extensions) (f .repeated)))

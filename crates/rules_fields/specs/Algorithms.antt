@@ -6,7 +6,8 @@ use Rattle.der.specs.Comparing.{contentsAre, octetsAre, sameElement}
 use Rattle.der.specs.Oids.{oidElement}
 use Rattle.der.specs.declared.header.Head.{Head}
 use Rattle.certificate.specs.declared.fields.Certificate.{Certificate}
-use Rattle.report.specs.Rows.{Row, _⦂_, brokenAt}
+use Rattle.profiles.specs.Judged.{everyProfile}
+use Rattle.report.specs.Rows.{Row, _for_⦂_, brokenAt}
 
 -- the OBJECT IDENTIFIER sha256WithRSAEncryption, and then NULL, tag 5, without contents
 abbrev pub sha256Rsa : List ℕ
@@ -32,4 +33,9 @@ abbrev pub rule108 : List ℕ → Certificate → List ℕ → List Head
 rule108 s c name = brokenAt (not (octetsAre s (c .issuer) name)) (c .issuer)
 
 unfoldable pub signatureRows : List ℕ → Certificate → List ℕ → List Row
-signatureRows s c name = 105 ⦂ rule105 s c ∷ 106 ⦂ rule106 s c ∷ 107 ⦂ rule107 s c ∷ 108 ⦂ rule108 s c name ∷ []
+signatureRows s c name =
+    105 for everyProfile ⦂ rule105 s c
+    ∷ 106 for everyProfile ⦂ rule106 s c
+    ∷ 107 for everyProfile ⦂ rule107 s c
+    ∷ 108 for everyProfile ⦂ rule108 s c name
+    ∷ []

@@ -3,10 +3,11 @@ use mathlib.Core.Bool.{not}
 use mathlib.Core.List.{List, [], _∷_, _++_}
 use Rattle.der.specs.declared.header.Head.{Head}
 use Rattle.times.specs.Validity.{earlyGeneral, reversedOf, withinDaysOf}
+use Rattle.profiles.specs.Judged.{everyProfile}
 use Rattle.profiles.specs.Fields.{maxDays}
 use Rattle.profiles.specs.declared.fields.Profile.{Profile}
 use Rattle.certificate.specs.declared.fields.Certificate.{Certificate}
-use Rattle.report.specs.Rows.{Row, _⦂_, brokenAt}
+use Rattle.report.specs.Rows.{Row, _for_⦂_, brokenAt}
 
 -- 109 "each GeneralizedTime before 2050"
 abbrev pub rule109 : Certificate → List Head
@@ -22,4 +23,4 @@ abbrev pub rule111 : Profile → Certificate → List Head
 rule111 p c = brokenAt (not (withinDaysOf (c .validity) (maxDays p))) (c .period)
 
 unfoldable pub validityRows : Profile → Certificate → List Row
-validityRows p c = 109 ⦂ rule109 c ∷ 110 ⦂ rule110 c ∷ 111 ⦂ rule111 p c ∷ []
+validityRows p c = 109 for everyProfile ⦂ rule109 c ∷ 110 for everyProfile ⦂ rule110 c ∷ 111 for everyProfile ⦂ rule111 p c ∷ []

@@ -9,7 +9,8 @@ use Rattle.der.specs.Integers.{integerOf}
 use Rattle.der.specs.declared.header.Head.{Head}
 use Rattle.numbers.specs.Numbers.{isPositive}
 use Rattle.certificate.specs.declared.fields.Certificate.{Certificate}
-use Rattle.report.specs.Rows.{Row, _⦂_, brokenAt}
+use Rattle.profiles.specs.Judged.{O, everyProfile}
+use Rattle.report.specs.Rows.{Row, _for_⦂_, brokenAt}
 
 -- the version stands in [0], and 2 says v3 (RFC 5280, 4.1.2.1)
 abbrev pub isV3 : List ℕ → Head → Bool
@@ -41,4 +42,9 @@ abbrev pub rule104 : Certificate → List Head
 rule104 c = brokenAt (ltb (serialLength (c .serial)) 8) (c .serial)
 
 unfoldable pub versionRows : List ℕ → Certificate → List Row
-versionRows s c = 101 ⦂ rule101 s c ∷ 102 ⦂ rule102 s c ∷ 103 ⦂ rule103 c ∷ 104 ⦂ rule104 c ∷ []
+versionRows s c =
+    101 for everyProfile ⦂ rule101 s c
+    ∷ 102 for everyProfile ⦂ rule102 s c
+    ∷ 103 for everyProfile ⦂ rule103 c
+    ∷ 104 for O ⦂ rule104 c
+    ∷ []

@@ -10,7 +10,8 @@ use Rattle.numbers.specs.Numbers.{modulusOk, exponentOk}
 use Rattle.primes.specs.Primes.{primesBelow, freeOf}
 use Rattle.certificate.specs.declared.key.Key.{Key}
 use Rattle.facts.specs.Kinds.{isRsa}
-use Rattle.report.specs.Rows.{Row, _⦂_, brokenAt}
+use Rattle.profiles.specs.Judged.{O, everyProfile}
+use Rattle.report.specs.Rows.{Row, _for_⦂_, brokenAt}
 
 -- 204 "RSA bits are, with 0 unused, exactly a sound SEQUENCE of two positive INTEGERs"
 abbrev pub rule204 : List ℕ → Key → List Head
@@ -47,4 +48,9 @@ abbrev pub rule207 : List ℕ → Key → List Head
 rule207 s k = modulusBy (freeOf (primesBelow 752)) s k
 
 unfoldable pub rsaRows : List ℕ → Key → List Row
-rsaRows s k = 204 ⦂ rule204 s k ∷ 205 ⦂ rule205 s k ∷ 206 ⦂ rule206 s k ∷ 207 ⦂ rule207 s k ∷ []
+rsaRows s k =
+    204 for everyProfile ⦂ rule204 s k
+    ∷ 205 for everyProfile ⦂ rule205 s k
+    ∷ 206 for everyProfile ⦂ rule206 s k
+    ∷ 207 for O ⦂ rule207 s k
+    ∷ []

@@ -2,13 +2,14 @@
 use mathlib.Core.List.{List, [], _∷_}
 use Prim.Native.Nat.{ℕ}
 use Rattle.der.specs.declared.header.Head.{Head}
+use Rattle.profiles.specs.Judged.{O, everyProfile}
 use Rattle.profiles.specs.Fields.{commonName, country, organization, stateOrProvince}
 use Rattle.profiles.specs.declared.fields.Profile.{Profile}
 use Rattle.subjects.specs.Texts.{isOtherCountry, isOtherOrganization, isOtherState}
 use Rattle.forms.specs.Kinds.{hasArc, isForeign}
 use Rattle.forms.specs.Lists.{attributesIn}
 use Rattle.report.specs.Forms.{filter, onesOf}
-use Rattle.report.specs.Rows.{Row, _⦂_}
+use Rattle.report.specs.Rows.{Row, _for_⦂_}
 
 -- "one X", X by its arc below 2.5.4: "an entry at the subject name if none, and at each further X"
 abbrev pub oneOf : ℕ → List ℕ → Head → List Head
@@ -47,7 +48,17 @@ abbrev pub rule119 : List ℕ → Head → List Head
 rule119 s name = filter (isOtherState s) (attributesIn s name)
 
 unfoldable pub countryRows : Profile → List ℕ → Head → List Row
-countryRows p s name = 112 ⦂ rule112 p s name ∷ 113 ⦂ rule113 s name ∷ 114 ⦂ rule114 s name ∷ 115 ⦂ rule115 s name ∷ []
+countryRows p s name =
+    112 for everyProfile ⦂ rule112 p s name
+    ∷ 113 for everyProfile ⦂ rule113 s name
+    ∷ 114 for everyProfile ⦂ rule114 s name
+    ∷ 115 for everyProfile ⦂ rule115 s name
+    ∷ []
 
 unfoldable pub organizationRows : List ℕ → Head → List Row
-organizationRows s name = 116 ⦂ rule116 s name ∷ 117 ⦂ rule117 s name ∷ 118 ⦂ rule118 s name ∷ 119 ⦂ rule119 s name ∷ []
+organizationRows s name =
+    116 for (2 ∷ O) ⦂ rule116 s name
+    ∷ 117 for (2 ∷ O) ⦂ rule117 s name
+    ∷ 118 for (2 ∷ []) ⦂ rule118 s name
+    ∷ 119 for (2 ∷ []) ⦂ rule119 s name
+    ∷ []

@@ -6,16 +6,17 @@ use Rattle.der.specs.Contents.{contentsOf}
 use Rattle.der.specs.Elements.{firstOf, isEmpty}
 use Rattle.der.specs.Members.{membersIn}
 use Rattle.der.specs.declared.header.Head.{Head}
+use Rattle.profiles.specs.Judged.{S, O}
 use Rattle.profiles.specs.Fields.{commonName}
 use Rattle.subjects.specs.Sets.{isCrowded}
 use Rattle.subjects.specs.Types.{attributeValue}
 use Rattle.hosts.specs.Names.{someNamed}
-use Rattle.certificate.specs.declared.slots.Slot.{Slot}
+use Rattle.certificate.specs.Standing.{Standing}
 use Rattle.forms.specs.Kinds.{hasArc}
 use Rattle.forms.specs.Lists.{attributesIn}
 use Rattle.forms.specs.Values.{whereGood}
 use Rattle.report.specs.Forms.{filter}
-use Rattle.report.specs.Rows.{Row, _⦂_, brokenAt}
+use Rattle.report.specs.Rows.{Row, _for_⦂_, brokenAt}
 
 -- the first CN of a subject, or an empty element
 abbrev pub firstCommonName : List ℕ → Head → Head
@@ -26,13 +27,13 @@ firstCommonName s name = firstOf (hasArc s commonName) (name .end) (attributesIn
 unfoldable pub isUnnamed : List ℕ → Head → Head → Bool
 isUnnamed s cn alternative = not (isEmpty cn) && not (someNamed s (contentsOf s (attributeValue s cn)) (membersIn s alternative))
 
--- 120, at the first CN; the slot is the subject alternative name's
-abbrev pub rule120 : List ℕ → Head → Slot → List Head
-rule120 s name v = whereGood v (brokenAt (isUnnamed s (firstCommonName s name) (v .element)) (firstCommonName s name))
+-- 120, at the first CN; the extension is the subject alternative name
+abbrev pub rule120 : List ℕ → Head → Standing → List Head
+rule120 s name e = whereGood e (λ x v. brokenAt (isUnnamed s (firstCommonName s name) v) (firstCommonName s name))
 
 -- 121 "each SET of a subject name with over one member"
 abbrev pub rule121 : List ℕ → Head → List Head
 rule121 s name = filter (isCrowded s) (membersIn s name)
 
-unfoldable pub nameRows : List ℕ → Head → Slot → List Row
-nameRows s name v = 120 ⦂ rule120 s name v ∷ 121 ⦂ rule121 s name ∷ []
+unfoldable pub nameRows : List ℕ → Head → Standing → List Row
+nameRows s name e = 120 for S ⦂ rule120 s name e ∷ 121 for O ⦂ rule121 s name ∷ []

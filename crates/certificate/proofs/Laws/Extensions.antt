@@ -2,6 +2,7 @@
 --     slot-three, slot-other             the slot of an identifier of three octets, and of any other
 --     slot-below                         a slot is below 11
 --     same-slot, slot-same               in a slot other than 0 the identifiers are the same, and the same identifiers are in one slot
+--     listed-at                          an identifier of the table, by its slot
 --     seen-earlier                       361 looks at the extensions before one
 --     repeat-is                          an extension repeats an identifier, by the first before it in its slot
 -- Assumes nothing.
@@ -126,10 +127,13 @@ position-at k (i ∷ is) c n = go (sameBy exactly c i) refl n (position-at (k + 
         let z : rest - k ≡ suc (rest - (k + 1)) = omega (arith, r .0) in
         (omega (arith, r .0), r .1 ∙ ap (λ (m : ℕ). getD (i ∷ is) m []) (sym z))
 
-one-identifier : (c d : List ℕ) → (slotFor c ≡ 0 → ⊥) → slotFor c ≡ slotFor d → c ≡ d
+-- an identifier of the table by its slot
+pub listed-at : (c : List ℕ) → (slotFor c ≡ 0 → ⊥) → c ≡ getD identifiers (slotFor c - 1) []
 unfolding slotFor
-one-identifier c d n e =
-    position-at 1 identifiers c n .1 ∙ (ap (λ (m : ℕ). getD identifiers (m - 1) []) e ∙ sym (position-at 1 identifiers d (λ z. n (e ∙ z)) .1))
+listed-at c n = position-at 1 identifiers c n .1
+
+one-identifier : (c d : List ℕ) → (slotFor c ≡ 0 → ⊥) → slotFor c ≡ slotFor d → c ≡ d
+one-identifier c d n e = listed-at c n ∙ (ap (λ (m : ℕ). getD identifiers (m - 1) []) e ∙ sym (listed-at d (λ z. n (e ∙ z))))
 
 module _ (s : List ℕ) (e h : Head) where
   pub slot-same : sameIdentifier s e h ≡ true → slotOf s e ≡ slotOf s h

@@ -34,7 +34,7 @@ use Rattle.report.specs.Rows.Up.{no-heads, more-heads}
 use Rattle.report.specs.Rows.RowsOk.{no-rows, more-rows}
 use Rattle.octets.proofs.Laws.Tests.{and-l, and-r}
 use Rattle.der.specs.declared.header.Head.{Head}
-use Rattle.profiles.specs.Judged.{judges}
+use Rattle.profiles.specs.Judged.{judgedIn, judgedBy, judges}
 use Rattle.profiles.specs.declared.fields.Profile.{Profile}
 use Rattle.report.proofs.Laws.Members.{only-in, map-in, from-map, filter-in}
 use Rattle.report.proofs.Laws.Order.{none-ordered, join-ordered, wider-ordered, of-rule}
@@ -206,7 +206,7 @@ rising-up rule (more-heads {h = h} {hs = hs} f r) = more-entries after (rising-u
 
 row-ordered : {P : Head → Type 0} (p : Profile) (r : Row) → RowOk P r → Ordered (r .rule) (r .rule + 1) (entriesOf p r)
 unfolding entriesOf
-row-ordered p r k = go (judges p (r .rule))
+row-ordered p r k = go (judgedBy p (r .profiles))
   where
     go : (j : Bool) → Ordered (r .rule) (r .rule + 1) (onlyIf j (map (entryAt (r .rule)) (r .broken)))
     go true =
@@ -230,13 +230,13 @@ InRows p rs e = (r : Row) × In r rs × ((h : Head) × BrokenIn p e r h)
 row-in : (p : Profile) (r : Row) (e : Entry) → In e (entriesOf p r) → (h : Head) × BrokenIn p e r h
 unfolding entriesOf
 row-in p r e m =
-    let x = only-in (judges p (r .rule)) (map (entryAt (r .rule)) (r .broken)) e .0 m in
+    let x = only-in (judgedBy p (r .profiles)) (map (entryAt (r .rule)) (r .broken)) e .0 m in
     let y = from-map (r .rule) (r .broken) (x .1) in
     (y .0, record { judged = x .0; among = y .1; entry = y .2 })
 
 in-row : (p : Profile) (r : Row) (e : Entry) (h : Head) → BrokenIn p e r h → In e (entriesOf p r)
 unfolding entriesOf
-in-row p r e h b = only-in (judges p (r .rule)) (map (entryAt (r .rule)) (r .broken)) e .1 (b .judged, map-in (r .rule) (b .among) (b .entry))
+in-row p r e h b = only-in (judgedBy p (r .profiles)) (map (entryAt (r .rule)) (r .broken)) e .1 (b .judged, map-in (r .rule) (b .among) (b .entry))
 
 said : (p : Profile) (rs : List Row) (e : Entry) → In e (findingsOf p rs) → InRows p rs e
 unfolding findingsOf
@@ -277,24 +277,24 @@ rows-inside p limit f k e m =
 -- ---- the empty report
 
 module _ (p : Profile) where
-  broken-none : (rs : List Row) → findingsOf p rs ≡ [] → (r : Row) → In r rs → judges p (r .rule) ≡ true → (hs : List Head) → r .broken ≡ hs → hs ≡ []
+  broken-none : (rs : List Row) → findingsOf p rs ≡ [] → (r : Row) → In r rs → judgedBy p (r .profiles) ≡ true → (hs : List Head) → r .broken ≡ hs → hs ≡ []
   broken-none rs e r m j [] q = refl
   broken-none rs e r m j (h ∷ hs) q =
       let b : BrokenIn p (entryAt (r .rule) h) r h = record { judged = j; among = rw q (List·Memᴰ·head refl); entry = refl } in
       absurd (List·Memᴰ·not-nil (subst (λ (es : List Entry). In (entryAt (r .rule) h) es) e (rows-in p rs (entryAt (r .rule) h) .1 (r, m, (h, b)))))
 
-  row-none : (r : Row) → (judges p (r .rule) ≡ true → r .broken ≡ []) → entriesOf p r ≡ []
+  row-none : (r : Row) → (judgedBy p (r .profiles) ≡ true → r .broken ≡ []) → entriesOf p r ≡ []
   unfolding entriesOf
-  row-none r f = go (judges p (r .rule)) f
+  row-none r f = go (judgedBy p (r .profiles)) f
     where
       go : (j : Bool) → (j ≡ true → r .broken ≡ []) → onlyIf j (map (entryAt (r .rule)) (r .broken)) ≡ []
       go true f = rw (f refl)
       go false f = refl
 
-  none-broken-all : (rs : List Row) → ((r : Row) → In r rs → judges p (r .rule) ≡ true → r .broken ≡ []) → findingsOf p rs ≡ []
+  none-broken-all : (rs : List Row) → ((r : Row) → In r rs → judgedBy p (r .profiles) ≡ true → r .broken ≡ []) → findingsOf p rs ≡ []
   unfolding findingsOf
   none-broken-all [] f = refl
   none-broken-all (r ∷ rs) f = rw (row-none r (f r (List·Memᴰ·head refl))) (none-broken-all rs (λ q m. f q (List·Memᴰ·tail m)))
 
-  pub none-broken : (rs : List Row) → (findingsOf p rs ≡ []) ↔ ((r : Row) → In r rs → judges p (r .rule) ≡ true → r .broken ≡ [])
+  pub none-broken : (rs : List Row) → (findingsOf p rs ≡ []) ↔ ((r : Row) → In r rs → judgedBy p (r .profiles) ≡ true → r .broken ≡ [])
   none-broken rs = (λ e r m j. broken-none rs e r m j (r .broken) refl, none-broken-all rs)
