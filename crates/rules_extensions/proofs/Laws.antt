@@ -2,3 +2,4 @@
 pub mod Slots
 pub mod Rows
 pub mod Repeats
+pub mod Standing

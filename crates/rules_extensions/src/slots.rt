@@ -9,8 +9,10 @@ ghost use mathlib.Core.Path.{_≡_};
 ghost use mathlib.Core.List.{[], _∷_};
 ghost use Prim.Native.Nat.{_<_};
 ghost use Rattle.certificate.specs.Slots.{slotCount};
+ghost use Rattle.certificate.specs.Standing.{standingBy, standingsBy};
+ghost use Rattle.facts.specs.Case.{slotIn};
 ghost use Rattle.report.specs.Rows.{Puts};
-ghost use Rattle.rules_extensions.specs.Slots.{listPlace, isMiscriticalAt, rowAt, rowsOver};
+ghost use Rattle.rules_extensions.specs.Slots.{listPlace, isMissing, isMiscriticalAt, rowAt, rowsOver};
 
 pub enum Question {
     // 300+s
@@ -32,6 +34,13 @@ pub fn list_place(c: Certificate) -> Head
     c.tbs
 }
 
+// Whether there is none in a slot.
+fn is_missing(v: Slot) -> bool
+    ensures { λ r. ⌜ r ≡ isMissing (standingBy v) ⌝ }
+{
+    !v.good & der::is_none(v.place)
+}
+
 // Whether an extension in this slot is critical and must not be, or the reverse.
 fn is_miscritical_at(p: Profile, slot: usize, critical: bool) -> bool
     ensures { λ r. ⌜ r ≡ isMiscriticalAt p slot critical ⌝ }
@@ -50,9 +59,9 @@ fn of_slot(
     v: Slot,
 ) -> usize
     requires { ⌜ slot < slotCount ⌝ }
-    ensures { λ r. ⌜ Puts p (rowAt question p list slot v ∷ []) n (now (room .entry)) r (now (room .exit)) ⌝ }
+    ensures { λ r. ⌜ Puts p (rowAt question p list slot (standingBy v) ∷ []) n (now (room .entry)) r (now (room .exit)) ⌝ }
 {
-    let none = der::is_none(v.place);
+    let none = is_missing(v);
     match question {
         Question::Missing => report::judge(room, n, p, 300 + slot, none, list),
         Question::Criticality => {
@@ -72,7 +81,7 @@ pub fn over_slots(
     list: Head,
     each: [Slot; SLOTS],
 ) -> usize
-    ensures { λ r. ⌜ Puts p (rowsOver question p list each) n (now (room .entry)) r (now (room .exit)) ⌝ }
+    ensures { λ r. ⌜ Puts p (rowsOver question p list (standingsBy (slotIn each))) n (now (room .entry)) r (now (room .exit)) ⌝ }
 {
     let mut count = n;
     let mut slot = 1;

@@ -6,6 +6,7 @@ use forms::Nest;
 use profiles::Profile;
 ghost use mathlib.Core.Path.{_≡_};
 ghost use mathlib.Core.Bool.{_&&_};
+ghost use Rattle.certificate.specs.Standing.{standingBy};
 ghost use Rattle.report.specs.Rows.{Puts};
 ghost use Rattle.rules_subject.specs.CommonName.{isUnnamed, nameRows};
 
@@ -23,7 +24,7 @@ fn is_unnamed(judged: bool, s: &[u8], cn: Head, alternative: Head) -> bool
 
 // The slot is the subject alternative name's.
 pub fn name_and_sets(room: &mut [u8], n: usize, p: Profile, s: &[u8], name: Head, v: Slot) -> usize
-    ensures { λ r. ⌜ Puts p (nameRows (now (s .entry)) name v) n (now (room .entry)) r (now (room .exit)) ⌝ }
+    ensures { λ r. ⌜ Puts p (nameRows (now (s .entry)) name (standingBy v)) n (now (room .entry)) r (now (room .exit)) ⌝ }
 {
     let from = name.body;
     let to = name.end;

@@ -2,3 +2,4 @@
 pub mod Identifiers
 pub mod Qualifiers
 pub mod Rows
+pub mod Usage

@@ -5,6 +5,7 @@ use der::Head;
 use profiles::Profile;
 ghost use mathlib.Core.Path.{_≡_};
 ghost use Rattle.certificate.specs.Issuer.{known, keyIdentifierOf};
+ghost use Rattle.certificate.specs.Standing.{standingBy};
 ghost use Rattle.report.specs.Rows.{Puts};
 ghost use Rattle.rules_values.specs.Identifiers.{isHeldBy, isFilled, isTwenty, keyIdentifierRows};
 
@@ -43,7 +44,7 @@ pub fn identifier_rules(
     i: Issuer,
 ) -> usize
     ensures { λ r. ⌜ Puts p
-        (keyIdentifierRows (now (s .entry)) (known (now (issuer .entry)) i .key) authority constraints subject)
+        (keyIdentifierRows (now (s .entry)) (known (now (issuer .entry)) i .key) (standingBy authority) (standingBy constraints) (standingBy subject))
         n (now (room .entry)) r (now (room .exit)) ⌝ }
 {
     let held = is_held_by(s, authority.element, issuer, i.has_key_id, i.key_id);

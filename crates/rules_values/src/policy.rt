@@ -3,12 +3,13 @@ use certificate::Slot;
 use forms::Kind;
 use forms::Nest;
 use profiles::Profile;
+ghost use Rattle.certificate.specs.Standing.{standingBy};
 ghost use Rattle.report.specs.Rows.{Puts};
 ghost use Rattle.rules_values.specs.Policies.{policyRows};
 
 // Slot 6 is certificate policies.
 pub fn policy_rules(room: &mut [u8], n: usize, p: Profile, s: &[u8], v: Slot) -> usize
-    ensures { λ r. ⌜ Puts p (policyRows p (now (s .entry)) v) n (now (room .entry)) r (now (room .exit)) ⌝ }
+    ensures { λ r. ⌜ Puts p (policyRows p (now (s .entry)) (standingBy v)) n (now (room .entry)) r (now (room .exit)) ⌝ }
 {
     let from = v.element.body;
     let to = v.element.end;

@@ -1,4 +1,5 @@
 -- A list that has an entry for each slot.
+--     numbers-at                              a list that has an entry for each of some numbers
 --     by-slot-long, by-slot-at                its length, and the entry of a slot
 --     by-slot-set, by-slot-none, by-slot-same  one entry changed; all the same; two lists that agree
 --     filled-none, filled-next, filled-all     entries filled in slot by slot
@@ -34,7 +35,7 @@ numbers-long k zero = refl
 numbers-long k (suc n) = ap suc (numbers-long (k + 1) n)
 
 module _ {A : Type 0} where
-  numbers-at : (f : ℕ → A) (d : A) (k n i : ℕ) → i < n → getD (map f (numbersFrom k n)) i d ≡ f (k + i)
+  pub numbers-at : (f : ℕ → A) (d : A) (k n i : ℕ) → i < n → getD (map f (numbersFrom k n)) i d ≡ f (k + i)
   unfolding numbersFrom
   numbers-at f d k zero i h = absurd (omega arith)
   numbers-at f d k (suc n) zero h = ap f (sym (add-zero k))

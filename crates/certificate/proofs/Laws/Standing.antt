@@ -1,13 +1,14 @@
 -- The code's entry for a slot of the table is how the extension with its identifier stands.
 --     slot-identifier      the extensions in a slot are those with its identifier
 --     standing-is          so the code's entry says how the first of them stands, and whatever stands there has such an entry
+--     table-at             the standing of a slot of the table
 --     known-is             what counts of an issuer, as the code reads it
 -- Assumes nothing.
 use mathlib.Core.Path.{_≡_, refl, sym, ap, _∙_}
 use mathlib.Core.List.{List, [], _∷_}
 use mathlib.Core.List.List·Memᴰ.{List·Memᴰ·head, List·Memᴰ·tail}
 use mathlib.Core.Bool.{Bool, true, false, cond, not, _&&_, false≢true}
-use Prim.Native.Nat.{ℕ, _+_, _-_, _<_}
+use Prim.Native.Nat.{ℕ, zero, suc, _+_, _-_, _<_}
 use native.Mathlib.Omega.{arith}
 use lib.ListN.{getD}
 use lib.Dec.{eqb}
@@ -16,7 +17,7 @@ use Rattle.certificate.specs.Extensions.{identifierOf, extensionOf, iden
 use Rattle.certificate.specs.Fields.{certificateOf}
 use Rattle.certificate.specs.Issuer.{Known, keyIdentifierIn, knownOf, keyIdIn, issuerOf, keyIdentifierOf, known}
 use Rattle.certificate.specs.Slots.{slotCount, firstInSlot, slotFrom, emptySlot, slotsOf}
-use Rattle.certificate.specs.Standing.{Standing, byValue, firstWith, identifierAt, standingIn, extensionBy, standingBy}
+use Rattle.certificate.specs.Standing.{Standing, byValue, firstWith, identifierAt, standingIn, overTable, standingAt, extensionBy, standingBy}
 use Rattle.certificate.specs.declared.slots.Slot.{Slot}
 use Rattle.octets.specs.Same.{sameBy, exactly}
 use Rattle.octets.proofs.Laws.Same.{same-lists, lists-same}
@@ -29,6 +30,7 @@ use Rattle.der.specs.declared.header.Head.{Head}
 use Rattle.der.proofs.Laws.Searching.{Full, children-full, missing-empty}
 use Rattle.asn.specs.Answers.{valueOk}
 use Rattle.certificate.proofs.Laws.Extensions.{listed-at}
+use Rattle.certificate.proofs.Laws.Slots.{numbers-at}
 use Rattle.certificate.proofs.Laws.Values.{slot-empty, slot-at}
 
 -- ---- identifiers
@@ -85,6 +87,12 @@ pub standing-is : (s : List ℕ) (list : Head) (k : ℕ) (d : Slot) → 0 < k �
 unfolding standingIn
 standing-is s list k d l m =
     ap standingBy (slot-at s list k d m) ∙ first-stands s (list .end) k l m (membersIn s list) (children-full s (list .body) (list .end))
+
+pub table-at : (f : ℕ → Standing) (k : ℕ) → 0 < k → k < slotCount → standingAt (overTable f) k ≡ f k
+table-at f zero l m = absurd (omega (arith, l))
+table-at f (suc k) l m =
+    let e : 1 + k ≡ suc k = omega arith in
+    numbers-at f Standing.missing 1 (slotCount - 1) k (omega (arith, m)) ∙ ap f e
 
 -- ---- the issuer's
 

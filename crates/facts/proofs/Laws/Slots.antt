@@ -1,8 +1,7 @@
 -- The extensions of a certificate that fits, and what is in the slots.
 --     in-list                      the extensions are elements
 --     list-place                   and so is their list, or the TBS structure where there is none
---     place-element, holder-element     an extension that is there, and its OCTET STRING
---     good-slot                    a good value: the one element in it, which is of its slot's type
+--     standing-ok                  an extension that is there, its OCTET STRING, and a good value: the one element in it, which is of its slot's type
 -- Assumes nothing.
 use mathlib.Core.Path.{_≡_, refl, sym, ap, _∙_, subst}
 use mathlib.Core.List.{List, [], _∷_, List·Memᴰ·not-nil, List·Memᴰ·cases-cons, Memᴰ·append-right}
@@ -12,6 +11,7 @@ use mathlib.Core.Bool.{Bool, true, false, cond, false≢true}
 use Prim.Native.Nat.{ℕ, _<_}
 use lib.ListN.{getD}
 use native.Mathlib.Nat.{le-refl}
+use Rattle.facts.specs.Case.{caseIn, extension}
 use Rattle.facts.specs.Elements.{extensionsOf, Element, AllElements}
 use Rattle.facts.specs.Elements.Element.{in-value}
 use Rattle.der.specs.Contents.{constructed}
@@ -32,9 +32,13 @@ use Rattle.certificate.specs.Slots.{slotCount, emptySlot, slotsOf}
 use Rattle.certificate.specs.Named.{ExtensionsNamed, ExtensionNamed, AllNamed}
 use Rattle.certificate.specs.Named.ExtensionsNamed.{without, listed}
 use Rattle.certificate.specs.Named.AllNamed.{none, more}
+use Rattle.certificate.specs.Issuer.{Known}
+use Rattle.certificate.specs.Standing.{Standing, standingIn, extensionBy, standingBy}
+use Rattle.certificate.specs.declared.extensions.Extension.{Extension}
 use Rattle.certificate.specs.declared.slots.Slot.{Slot}
 use Rattle.certificate.proofs.Laws.Named.{named}
 use Rattle.certificate.proofs.Laws.Parts.{certificate-extensions-named}
+use Rattle.certificate.proofs.Laws.Standing.{standing-is, table-at}
 use Rattle.certificate.proofs.Laws.Values.{slot-there, slot-good}
 use Rattle.report.specs.Order.{In}
 use Rattle.facts.proofs.Laws.Members.{here, among, same-element, members-by, members-of}
@@ -45,11 +49,21 @@ named-in none i = absurd (List·Memᴰ·not-nil i)
 named-in {s} {h} (more {h = x} {hs = xs} k ks) i =
     ⊎-elim (λ (q : h ≡ x). subst (λ (y : Head). ExtensionNamed s y) (sym q) k) (λ (j : In h xs). named-in ks j) (List·Memᴰ·cases-cons i)
 
--- a slot with a good value
-pub record GoodSlot (s : List ℕ) (k : ℕ) (v : Slot) : Type 0 where
-  pub holder : Element s (v .holder)
-  pub element : Element s (v .element)
-  pub fit : fits (valueOf k) s (v .element) ≡ Fits
+-- an extension that is there
+pub record ThereOk (s : List ℕ) (x : Extension) : Type 0 where
+  pub place : Element s (x .place)
+  pub value : Element s (x .value)
+
+-- one with a good value
+pub record GoodOk (s : List ℕ) (k : ℕ) (x : Extension) (v : Head) : Type 0 where
+  pub there : ThereOk s x
+  pub element : Element s v
+  pub fit : fits (valueOf k) s v ≡ Fits
+
+abbrev pub StandingOk : List ℕ → ℕ → Standing → Type 0
+StandingOk s k Standing.missing = Unit {0}
+StandingOk s k (Standing.bad x) = ThereOk s x
+StandingOk s k (Standing.good x v) = GoodOk s k x v
 
 module _ (s : List ℕ) (e : certificateVerdict s ≡ Fits) where
   abbrev list : Head
@@ -109,17 +123,28 @@ module _ (s : List ℕ) (e : certificateVerdict s ≡ Fits) where
     abbrev there : Slot
     there = getD (slotsOf s list) k (emptySlot (missing 0))
 
-    pub place-element : isEmpty (there .place) ≡ false → Element s (there .place)
-    place-element t = in-list _ (slot-there s list k _ l t .among)
+    extension-ok : isEmpty (there .place) ≡ false → ThereOk s (extensionBy there)
+    extension-ok t =
+        let n = slot-there s list k _ l t in
+        record { place = in-list _ (n .among); value = same-element (n .holder-is) (value-element _ (n .among)) }
 
-    pub holder-element : isEmpty (there .place) ≡ false → Element s (there .holder)
-    holder-element t = let n = slot-there s list k _ l t in same-element (n .holder-is) (value-element _ (n .among))
-
-    pub good-slot : there .good ≡ true → GoodSlot s k there
-    good-slot g =
+    good-ok : there .good ≡ true → GoodOk s k (extensionBy there) (there .element)
+    good-ok g =
         let n = slot-good s list k _ l g in
         record {
-          holder = same-element (n .named .holder-is) (value-element _ (n .named .among));
+          there = extension-ok (n .there);
           element = same-element (sym (children-first s _ _ _ _ (n .alone) .is)) (in-value (n .named .among) (n .named .holder-is) (n .filled));
           fit = n .element-fits;
         }
+
+    slot-ok : StandingOk s k (standingBy there)
+    slot-ok = go (there .good) refl (isEmpty (there .place)) refl
+      where
+        go : (g : Bool) → there .good ≡ g → (b : Bool) → isEmpty (there .place) ≡ b
+            → StandingOk s k (cond g (Standing.good (extensionBy there) (there .element)) (cond b Standing.missing (Standing.bad (extensionBy there))))
+        go true t b u = good-ok t
+        go false t true u = tt
+        go false t false u = extension-ok u
+
+    pub standing-ok : (known : Known) → 0 < k → StandingOk s k (extension (caseIn s known) k)
+    standing-ok known m = subst (StandingOk s k) (standing-is s list k _ m l ∙ sym (table-at (standingIn s list) k m l)) slot-ok

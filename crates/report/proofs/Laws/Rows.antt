@@ -4,7 +4,7 @@
 --     puts-judged, puts-unjudged, puts-empty, each-is, one-is     those of a rule on many elements
 --     rest-row, puts-rest        loops over rules: one more, and none left
 --     puts-asked                 a test that is made only where the rule is judged
---     at-ok, twice-ok, each-ok, one-ok   what is asked of a rule, by its form
+--     none-ok, at-ok, twice-ok, each-ok, one-ok   what is asked of a rule, by its form
 --     ok-join                    what is asked of several
 --     rows-ordered               the entries rise by rule, then start
 --     rows-in                    an entry is in the report exactly if its rule is judged and is broken there
@@ -29,7 +29,7 @@ use Rattle.report.specs.Order.{In, Before, RisingEntries, Ordered, Apart
 use Rattle.report.specs.Order.RisingEntries.{no-entries, more-entries}
 use Rattle.report.specs.Order.Apart.{no-items, more-items}
 use Rattle.report.specs.Putting.{Put}
-use Rattle.report.specs.Rows.{Row, _⦂_, brokenAt, onlyIf, entriesOf, findingsOf, Puts, Up, RowOk, RowsOk, ascend, BrokenIn}
+use Rattle.report.specs.Rows.{Row, _for_⦂_, _⦂_, brokenAt, onlyIf, entriesOf, findingsOf, Puts, Up, RowOk, RowsOk, ascend, BrokenIn}
 use Rattle.report.specs.Rows.Up.{no-heads, more-heads}
 use Rattle.report.specs.Rows.RowsOk.{no-rows, more-rows}
 use Rattle.octets.proofs.Laws.Tests.{and-l, and-r}
@@ -155,34 +155,37 @@ up-filter test (more-items {h = h} {hs = hs} l f r) = go (test h) (up-filter tes
     go false q = q
 
 module _ {P : Head → Type 0} where
-  pub at-ok : (rule : ℕ) (bad : Bool) (h : Head) → (bad ≡ true → P h) → RowOk P (rule ⦂ brokenAt bad h)
+  pub none-ok : {ps : List ℕ} (rule : ℕ) → RowOk P (rule for ps ⦂ [])
+  none-ok rule = record { up = no-heads; all = λ g m. absurd (List·Memᴰ·not-nil m) }
+
+  pub at-ok : {ps : List ℕ} (rule : ℕ) (bad : Bool) (h : Head) → (bad ≡ true → P h) → RowOk P (rule for ps ⦂ brokenAt bad h)
   unfolding brokenAt
   at-ok rule true h k =
       record {
         up = more-heads (λ g m. absurd (List·Memᴰ·not-nil m)) no-heads;
         all = λ g m. subst P (sym (List·Memᴰ·eq-of-singleton m)) (k refl);
       }
-  at-ok rule false h k = record { up = no-heads; all = λ g m. absurd (List·Memᴰ·not-nil m) }
+  at-ok rule false h k = none-ok rule
 
-  pub twice-ok : (rule : ℕ) (x y : Bool) (h g : Head) → h .at < g .at → P h → P g → RowOk P (rule ⦂ (brokenAt x h ++ brokenAt y g))
+  pub twice-ok : {ps : List ℕ} (rule : ℕ) (x y : Bool) (h g : Head) → h .at < g .at → P h → P g → RowOk P (rule for ps ⦂ (brokenAt x h ++ brokenAt y g))
   unfolding brokenAt
-  twice-ok rule true true h g l k j =
+  twice-ok {ps} rule true true h g l k j =
       record {
-        up = more-heads (λ f m. subst (λ (e : Head). h .at < e .at) (sym (List·Memᴰ·eq-of-singleton m)) l) (at-ok rule true g (λ t. j) .up);
-        all = λ f m. ⊎-elim (λ (e : f ≡ h). subst P (sym e) k) (at-ok rule true g (λ t. j) .all f) (List·Memᴰ·cases-cons m);
+        up = more-heads (λ f m. subst (λ (e : Head). h .at < e .at) (sym (List·Memᴰ·eq-of-singleton m)) l) (at-ok {ps = ps} rule true g (λ t. j) .up);
+        all = λ f m. ⊎-elim (λ (e : f ≡ h). subst P (sym e) k) (at-ok {ps = ps} rule true g (λ t. j) .all f) (List·Memᴰ·cases-cons m);
       }
-  twice-ok rule true false h g l k j = at-ok rule true h (λ t. k)
-  twice-ok rule false y h g l k j = at-ok rule y g (λ t. j)
+  twice-ok {ps} rule true false h g l k j = at-ok rule true h (λ t. k)
+  twice-ok {ps} rule false y h g l k j = at-ok rule y g (λ t. j)
 
-  pub each-ok : (rule : ℕ) (bad : Head → Bool) {hs : List Head} → Apart hs → ((h : Head) → In h hs → P h) → RowOk P (rule ⦂ filter bad hs)
+  pub each-ok : {ps : List ℕ} (rule : ℕ) (bad : Head → Bool) {hs : List Head} → Apart hs → ((h : Head) → In h hs → P h) → RowOk P (rule for ps ⦂ filter bad hs)
   each-ok rule bad {hs} a k = record { up = up-filter bad a; all = λ h m. k h (filter-in bad hs h .0 m .0) }
 
-  pub one-ok : (rule : ℕ) (isX : Head → Bool) {hs : List Head} (name : Head) → Apart hs → P name → ((h : Head) → In h hs → P h)
-      → RowOk P (rule ⦂ onesOf name (filter isX hs))
+  pub one-ok : {ps : List ℕ} (rule : ℕ) (isX : Head → Bool) {hs : List Head} (name : Head) → Apart hs → P name → ((h : Head) → In h hs → P h)
+      → RowOk P (rule for ps ⦂ onesOf name (filter isX hs))
   unfolding onesOf brokenAt
-  one-ok rule isX {hs} name a k f = go (filter isX hs) (up-filter isX a) (λ h m. f h (filter-in isX hs h .0 m .0))
+  one-ok {ps} rule isX {hs} name a k f = go (filter isX hs) (up-filter isX a) (λ h m. f h (filter-in isX hs h .0 m .0))
     where
-      go : (xs : List Head) → Up xs → ((h : Head) → In h xs → P h) → RowOk P (rule ⦂ onesOf name xs)
+      go : (xs : List Head) → Up xs → ((h : Head) → In h xs → P h) → RowOk P (rule for ps ⦂ onesOf name xs)
       go [] u g = at-ok rule true name (λ t. k)
       go (x ∷ xs) (more-heads l u) g = record { up = u; all = λ h m. g h (List·Memᴰ·tail m) }
 

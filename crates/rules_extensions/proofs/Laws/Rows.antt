@@ -2,16 +2,14 @@
 --     extensions-ok     each of them at elements of the certificate, in their order
 -- Assumes nothing.
 use mathlib.Core.Path.{_≡_}
-use mathlib.Core.List.{List}
-use mathlib.Core.Bool.{Bool, not, _&&_}
+use mathlib.Core.List.{List, [], _∷_}
+use mathlib.Core.Bool.{Bool, true}
 use Prim.Native.Nat.{ℕ, _<_}
-use borrow.Author.Tests.{not-true}
-use Rattle.rules_extensions.specs.Slots.{isMissing, isMiscriticalAt, listPlace, rowAt, rowsOver}
+use Rattle.rules_extensions.specs.Slots.{listPlace, rowAt, rowsOver}
 use Rattle.rules_extensions.specs.Identifiers.{identifierRows}
 use Rattle.rules_extensions.specs.Rules.{extensionRows}
 use Rattle.rules_extensions.specs.declared.slots.Question.{Question}
 use Rattle.rules_extensions.specs.declared.slots.Question.the-variants.{Missing, Criticality, Value}
-use Rattle.octets.proofs.Laws.Tests.{and-l}
 use Rattle.der.specs.Members.{membersIn}
 use Rattle.der.specs.declared.header.Head.{Head}
 use Rattle.asn.specs.Answers.{certificateVerdict}
@@ -19,37 +17,40 @@ use Rattle.asn.specs.declared.fitting.Verdict.the-variants.{Fits}
 use Rattle.profiles.specs.declared.fields.Profile.{Profile}
 use Rattle.certificate.specs.Fields.{certificateOf}
 use Rattle.certificate.specs.Issuer.{Known}
-use Rattle.certificate.specs.Slots.{slotCount}
-use Rattle.facts.specs.Case.{caseIn, slot}
+use Rattle.certificate.specs.Standing.{Standing}
+use Rattle.facts.specs.Case.{caseIn, extension}
 use Rattle.facts.specs.Elements.{Element}
-use Rattle.facts.proofs.Laws.Slots.{in-list, list-place, place-element, holder-element}
+use Rattle.facts.proofs.Laws.Slots.{in-list, list-place, StandingOk, standing-ok}
 use Rattle.report.specs.Forms.{filter}
-use Rattle.report.specs.Rows.{_⦂_, RowOk, RowsOk}
+use Rattle.report.specs.Rows.{_for_⦂_, brokenAt, RowOk, RowsOk}
 use Rattle.report.specs.Rows.RowsOk.{no-rows, more-rows}
 use Rattle.report.proofs.Laws.Order.{children-apart}
-use Rattle.report.proofs.Laws.Rows.{at-ok, each-ok, ok-join}
+use Rattle.report.proofs.Laws.Rows.{none-ok, at-ok, each-ok, ok-join}
 use Rattle.rules_extensions.proofs.Laws.Slots.{rowsFrom, slots-ok}
 
 module _ (s : List ℕ) (e : certificateVerdict s ≡ Fits) (p : Profile) (known : Known) where
   -- ---- slots
 
-  slot-ok : (question : Question) (k : ℕ) → k < slotCount → RowOk (Element s) (rowAt question p (listPlace (certificateOf s)) k (slot (caseIn s known) k))
-  slot-ok Missing k l = at-ok _ _ _ (λ t. list-place s e)
-  slot-ok Criticality k l =
-      let v = slot (caseIn s known) k in
-      let bad = isMiscriticalAt p k (v .critical) in
-      at-ok _ (not (isMissing v) && bad) _ (λ t. place-element s e k l (not-true (isMissing v) (and-l (not (isMissing v)) bad t)))
-  slot-ok Value k l =
-      let v = slot (caseIn s known) k in
-      at-ok _ (not (isMissing v) && not (v .good)) _ (λ t. holder-element s e k l (not-true (isMissing v) (and-l (not (isMissing v)) (not (v .good)) t)))
+  sole-ok : {ps : List ℕ} (rule : ℕ) (h : Head) → Element s h → RowOk (Element s) (rule for ps ⦂ (h ∷ []))
+  unfolding brokenAt
+  sole-ok rule h k = at-ok rule true h (λ t. k)
 
-  over-ok : (question : Question) → RowsOk (Element s) (rowsOver question p (listPlace (certificateOf s)) (caseIn s known .slots))
+  by-standing : (question : Question) (k : ℕ) (x : Standing) → StandingOk s k x → RowOk (Element s) (rowAt question p (listPlace (certificateOf s)) k x)
+  by-standing Missing k x o = at-ok _ _ _ (λ t. list-place s e)
+  by-standing Criticality k Standing.missing o = none-ok _
+  by-standing Criticality k (Standing.bad x) o = at-ok _ _ _ (λ t. o .place)
+  by-standing Criticality k (Standing.good x v) o = at-ok _ _ _ (λ t. o .there .place)
+  by-standing Value k Standing.missing o = none-ok _
+  by-standing Value k (Standing.bad x) o = sole-ok _ _ (o .value)
+  by-standing Value k (Standing.good x v) o = none-ok _
+
+  over-ok : (question : Question) → RowsOk (Element s) (rowsOver question p (listPlace (certificateOf s)) (caseIn s known .table))
   unfolding rowsOver rowsFrom
-  over-ok question = slots-ok _ (slot-ok question)
+  over-ok question = slots-ok _ (λ k m l. by-standing question k (extension (caseIn s known) k) (standing-ok s e k l known m))
 
   -- ---- identifiers
 
-  each : (rule : ℕ) (bad : Head → Bool) → RowOk (Element s) (rule ⦂ filter bad (membersIn s (certificateOf s .extensions)))
+  each : {ps : List ℕ} (rule : ℕ) (bad : Head → Bool) → RowOk (Element s) (rule for ps ⦂ filter bad (membersIn s (certificateOf s .extensions)))
   each rule bad = each-ok rule bad (children-apart s _ _) (in-list s e)
 
   identifiers-ok : RowsOk (Element s) (identifierRows p s (certificateOf s .extensions) (caseIn s known .repeated))

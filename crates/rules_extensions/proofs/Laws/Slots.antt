@@ -42,12 +42,12 @@ module _ (f : ℕ → Row) (k : ℕ) where
         {rs : List Row} → slotCount ≤ k → Rest (findingsOf p (rowsFrom f k)) n room (findingsOf p rs) n₀ room₀ → Puts p rs n₀ room₀ n room
     slots-end l r = puts-rest p (rw (none-left l) at r)
 
-module _ {P : Head → Type 0} (f : ℕ → Row) (ok : (k : ℕ) → k < slotCount → RowOk P (f k)) where
-  numbers-ok : (k n : ℕ) → k + n ≤ slotCount → RowsOk P (map f (numbersFrom k n))
+module _ {P : Head → Type 0} (f : ℕ → Row) (ok : (k : ℕ) → 0 < k → k < slotCount → RowOk P (f k)) where
+  numbers-ok : (k n : ℕ) → 0 < k → k + n ≤ slotCount → RowsOk P (map f (numbersFrom k n))
   unfolding numbersFrom
-  numbers-ok k zero l = no-rows
-  numbers-ok k (suc n) l = more-rows (ok k (omega arith)) (numbers-ok (k + 1) n (omega arith))
+  numbers-ok k zero m l = no-rows
+  numbers-ok k (suc n) m l = more-rows (ok k m (omega arith)) (numbers-ok (k + 1) n (omega arith) (omega arith))
 
   pub slots-ok : RowsOk P (rowsFrom f 1)
   unfolding rowsFrom
-  slots-ok = numbers-ok 1 (slotCount - 1) (omega arith)
+  slots-ok = numbers-ok 1 (slotCount - 1) (omega arith) (omega arith)

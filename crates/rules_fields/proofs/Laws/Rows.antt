@@ -20,12 +20,12 @@ use Rattle.certificate.specs.Issuer.{Known}
 use Rattle.facts.specs.Case.{caseIn}
 use Rattle.facts.specs.Elements.{Element}
 use Rattle.facts.proofs.Laws.Fields.{field-elements}
-use Rattle.report.specs.Rows.{_⦂_, brokenAt, RowOk, RowsOk}
+use Rattle.report.specs.Rows.{_for_⦂_, brokenAt, RowOk, RowsOk}
 use Rattle.report.specs.Rows.RowsOk.{no-rows, more-rows}
 use Rattle.report.proofs.Laws.Rows.{at-ok, twice-ok}
 
 module _ (s : List ℕ) (e : certificateVerdict s ≡ Fits) where
-  at : (rule : ℕ) (bad : Bool) {h : Head} → Element s h → RowOk (Element s) (rule ⦂ brokenAt bad h)
+  at : {ps : List ℕ} (rule : ℕ) (bad : Bool) {h : Head} → Element s h → RowOk (Element s) (rule for ps ⦂ brokenAt bad h)
   at rule bad {h} k = at-ok rule bad h (λ t. k)
 
   version-element : Element s (versionPlace (certificateOf s .version) (certificateOf s .tbs))

@@ -5,6 +5,7 @@ use mathlib.Core.Path.{_≡_, subst}
 use mathlib.Core.List.{List, [], _∷_}
 use mathlib.Core.Bool.{not, _&&_}
 use Prim.Native.Nat.{ℕ}
+use Rattle.profiles.specs.Judged.{judgedIn, rowOf}
 use Rattle.rules_key.specs.Bits.{rsaKeyOf}
 use Rattle.rules_key.specs.Rsa.{rsaRows}
 use Rattle.rules_key.specs.declared.bits.RsaKey.{RsaKey}
@@ -34,5 +35,5 @@ module _ (p : Profile) (s : List ℕ) (k : Key) where
   pub rsa-noted :
       {n r : ℕ} {room last : List ℕ} {key : RsaKey} → key ≡ rsaKeyOf s (k .bits)
       → Puts p (byKey key) n room r last → Puts p (rsaRows s k) n room r last
-  unfolding rsaRows rsaKeyOf
+  unfolding rsaRows rsaKeyOf judgedIn rowOf
   rsa-noted {n} {r} {room} {last} e q = subst (λ (x : RsaKey). Puts p (byKey x) n room r last) e q

@@ -35,7 +35,7 @@ use Rattle.facts.specs.Kinds.{isRsa}
 use Rattle.facts.proofs.Laws.Key.{algorithm-element, bits-element}
 use Rattle.facts.proofs.Laws.Members.{here, among, same-element, members-by}
 use Rattle.report.specs.Order.{In}
-use Rattle.report.specs.Rows.{_⦂_, brokenAt, RowOk, RowsOk}
+use Rattle.report.specs.Rows.{_for_⦂_, brokenAt, RowOk, RowsOk}
 use Rattle.report.specs.Rows.RowsOk.{no-rows, more-rows}
 use Rattle.report.proofs.Laws.Rows.{at-ok}
 use Rattle.rules_key.proofs.Laws.Bits.{rsa-members}
@@ -106,13 +106,13 @@ module _ (s : List ℕ) (e : certificateVerdict s ≡ Fits) where
   -- ---- rules 201 to 207
 
   -- a rule on the modulus, and one on the exponent
-  modulus-ok : (rule : ℕ) (bad : Bool) → RowOk (Element s) (rule ⦂ brokenAt (judgesNumbers s (subjectKey s) && bad) (modulusOf s bits))
+  modulus-ok : {ps : List ℕ} (rule : ℕ) (bad : Bool) → RowOk (Element s) (rule for ps ⦂ brokenAt (judgesNumbers s (subjectKey s) && bad) (modulusOf s bits))
   modulus-ok rule bad = at-ok rule (judgesNumbers s (subjectKey s) && bad) _ (λ t. modulus-element (and-l (judgesNumbers s (subjectKey s)) bad t))
 
-  exponent-ok : (rule : ℕ) (bad : Bool) → RowOk (Element s) (rule ⦂ brokenAt (judgesNumbers s (subjectKey s) && bad) (exponentOf s bits))
+  exponent-ok : {ps : List ℕ} (rule : ℕ) (bad : Bool) → RowOk (Element s) (rule for ps ⦂ brokenAt (judgesNumbers s (subjectKey s) && bad) (exponentOf s bits))
   exponent-ok rule bad = at-ok rule (judgesNumbers s (subjectKey s) && bad) _ (λ t. exponent-element (and-l (judgesNumbers s (subjectKey s)) bad t))
 
-  algorithm-ok : (rule : ℕ) (bad : Bool) → RowOk (Element s) (rule ⦂ brokenAt bad (subjectKey s .algorithm))
+  algorithm-ok : {ps : List ℕ} (rule : ℕ) (bad : Bool) → RowOk (Element s) (rule for ps ⦂ brokenAt bad (subjectKey s .algorithm))
   algorithm-ok rule bad = at-ok rule bad _ (λ t. algorithm-element s e)
 
   pub key-ok : (p : Profile) (k : Known) → RowsOk (Element s) (keyRows p (caseIn s k))

@@ -24,11 +24,11 @@ use Rattle.profiles.specs.Fields.{commonName}
 use Rattle.profiles.specs.declared.fields.Profile.{Profile}
 use Rattle.certificate.specs.Fields.{certificateOf}
 use Rattle.certificate.specs.Issuer.{Known}
-use Rattle.certificate.specs.declared.slots.Slot.{Slot}
+use Rattle.certificate.specs.Standing.{Standing}
 use Rattle.certificate.proofs.Laws.Named.{named}
 use Rattle.subjects.specs.Types.{attributeValue}
 use Rattle.hosts.specs.Names.{someNamed}
-use Rattle.facts.specs.Case.{caseIn, slot}
+use Rattle.facts.specs.Case.{caseIn, extension}
 use Rattle.facts.specs.Elements.{Element, AllElements}
 use Rattle.facts.proofs.Laws.Members.{AllMembers, many-fit, members-of}
 use Rattle.facts.proofs.Laws.Fields.{field-elements}
@@ -36,13 +36,12 @@ use Rattle.forms.specs.Kinds.{hasArc}
 use Rattle.forms.specs.Lists.{attributesIn}
 use Rattle.forms.specs.declared.nests.Nest.the-variants.{Set}
 use Rattle.forms.proofs.Laws.Lists.{items-in, sets-apart}
-use Rattle.forms.proofs.Laws.Values.{good-at}
 use Rattle.report.specs.Forms.{filter, onesOf}
 use Rattle.report.specs.Order.{In, Apart}
-use Rattle.report.specs.Rows.{_⦂_, RowOk, RowsOk}
+use Rattle.report.specs.Rows.{_for_⦂_, RowOk, RowsOk}
 use Rattle.report.specs.Rows.RowsOk.{no-rows, more-rows}
 use Rattle.report.proofs.Laws.Order.{children-apart}
-use Rattle.report.proofs.Laws.Rows.{at-ok, each-ok, one-ok}
+use Rattle.report.proofs.Laws.Rows.{none-ok, at-ok, each-ok, one-ok}
 
 module _ (s : List ℕ) (e : certificateVerdict s ≡ Fits) where
   abbrev subject : Head
@@ -73,10 +72,10 @@ module _ (s : List ℕ) (e : certificateVerdict s ≡ Fits) where
 
   -- ---- rules 112 to 121
 
-  each : (rule : ℕ) (bad : Head → Bool) → RowOk (Element s) (rule ⦂ filter bad (attributesIn s subject))
+  each : {ps : List ℕ} (rule : ℕ) (bad : Head → Bool) → RowOk (Element s) (rule for ps ⦂ filter bad (attributesIn s subject))
   each rule bad = each-ok rule bad attributes-apart attribute
 
-  one : (rule : ℕ) (isX : Head → Bool) → RowOk (Element s) (rule ⦂ onesOf subject (filter isX (attributesIn s subject)))
+  one : {ps : List ℕ} (rule : ℕ) (isX : Head → Bool) → RowOk (Element s) (rule for ps ⦂ onesOf subject (filter isX (attributesIn s subject)))
   one rule isX = one-ok rule isX subject attributes-apart (field-elements s e .subject) attribute
 
   abbrev cn : Head
@@ -90,10 +89,10 @@ module _ (s : List ℕ) (e : certificateVerdict s ≡ Fits) where
       let some = not-true (isEmpty cn) (and-l (not (isEmpty cn)) unnamed t) in
       attribute cn (first-among (hasArc s commonName) (subject .end) (attributesIn s subject) some)
 
-  cn-ok : (v : Slot) → RowOk (Element s) (120 ⦂ rule120 s subject v)
-  cn-ok v =
-      let bad = isUnnamed s cn (v .element) in
-      rw (← good-at v bad cn) (at-ok 120 (v .good && bad) cn (λ t. cn-element (v .element) (and-r (v .good) bad t)))
+  cn-ok : {ps : List ℕ} (x : Standing) → RowOk (Element s) (120 for ps ⦂ rule120 s subject x)
+  cn-ok Standing.missing = none-ok 120
+  cn-ok (Standing.bad x) = none-ok 120
+  cn-ok (Standing.good x v) = at-ok 120 (isUnnamed s cn v) cn (cn-element v)
 
   pub subject-ok : (p : Profile) (k : Known) → RowsOk (Element s) (subjectRows p (caseIn s k))
   unfolding subjectRows countryRows organizationRows nameRows
@@ -106,5 +105,5 @@ module _ (s : List ℕ) (e : certificateVerdict s ≡ Fits) where
       (more-rows (each 117 _)
       (more-rows (one 118 _)
       (more-rows (each 119 _)
-      (more-rows (cn-ok (slot (caseIn s k) 7))
+      (more-rows (cn-ok (extension (caseIn s k) 7))
       (more-rows (each-ok 121 _ (children-apart s (subject .end) (subject .body)) in-name) no-rows)))))))))

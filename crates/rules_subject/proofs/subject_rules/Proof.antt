@@ -1,12 +1,13 @@
 -- `rules_subject::subject_rules` meets its contract. Assumes nothing.
 use borrow.Author.Needs.{needs}
 use Rattle.rules_subject.specs.Rules.{subjectRows}
+use Rattle.certificate.specs.Slots.{numbersFrom}
 use Rattle.report.proofs.Laws.Rows.{_⟫_}
 use Rattle.rules_subject.proofs.subject_rules.Statement.{statement}
 use Rattle.rules_subject.proofs.subject_rules.Tie as tie
 
 returns : tie.Need-returns
-unfolding subjectRows
+unfolding subjectRows numbersFrom
 returns c =
     let third = c .before .before in
     let second = third .before .before .before .before .before in

@@ -1,13 +1,14 @@
 -- `rules_values::value_rules` meets its contract. Assumes nothing.
 use borrow.Author.Needs.{needs}
 use Rattle.rules_values.specs.Rules.{valueRows}
+use Rattle.certificate.specs.Slots.{numbersFrom}
 use Rattle.report.proofs.Laws.Rows.{_⟫_}
 use Rattle.report.proofs.Laws.Loops.{room-kept}
 use Rattle.rules_values.proofs.value_rules.Statement.{statement}
 use Rattle.rules_values.proofs.value_rules.Tie as tie
 
 returns : tie.Need-returns
-unfolding valueRows
+unfolding valueRows numbersFrom
 returns c =
     let seventh = c .before .before in
     let sixth = seventh .before .before .before .before .before in

@@ -1,12 +1,13 @@
 -- `rules_extensions::identifiers::identifiers` meets its contract. Assumes nothing.
 use borrow.Author.Needs.{needs}
+use Rattle.profiles.specs.Judged.{judgedIn, rowOf}
 use Rattle.rules_extensions.specs.Identifiers.{identifierRows}
 use Rattle.report.proofs.Laws.Rows.{_⟫_}
 use Rattle.rules_extensions.proofs.identifiers.identifiers.Statement.{statement}
 use Rattle.rules_extensions.proofs.identifiers.identifiers.Tie as tie
 
 returns : tie.Need-returns
-unfolding identifierRows
+unfolding identifierRows judgedIn rowOf
 returns c =
     let third = c .before .before in
     let second = third .before .before .before .before in

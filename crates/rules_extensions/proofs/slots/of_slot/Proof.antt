@@ -1,5 +1,6 @@
 -- `rules_extensions::slots::of_slot` meets its contract. Assumes nothing.
 use borrow.Author.Needs.{needs}
+use Rattle.rules_extensions.proofs.Laws.Standing.{puts-missing, puts-critical, puts-value}
 use Rattle.rules_extensions.proofs.slots.of_slot.Statement.{statement}
 use Rattle.rules_extensions.proofs.slots.of_slot.Tie as tie
 
@@ -7,20 +8,30 @@ returns : tie.Need-returns
 returns c =
     let judged = c .before .before in
     let question = judged .before .before in
-    rw (question .enum-told .given .1, ← question .before .before .is-none .ensures) (judged .judge .ensures)
+    let none = question .before .before in
+    let a = none .before .before .args in
+    rw (question .enum-told .given .1)
+    (puts-missing (a .v) (a .p) (a .list) (a .slot) (none .before .before .pre) _ (none .is-missing .ensures) (judged .judge .ensures))
 
 returns-2 : tie.Need-returns-2
 returns-2 c =
     let judged = c .before .before in
     let bad = judged .before .before in
     let question = bad .before in
-    rw (question .enum-told2 .given .1, ← question .before .before .is-none .ensures, ← bad .is-miscritical-at .ensures) (judged .judge2 .ensures)
+    let none = question .before .before in
+    let a = none .before .before .args in
+    rw (question .enum-told2 .given .1)
+    (puts-critical (a .v) (a .p) (a .list) (a .slot) (none .before .before .pre) _ (none .is-missing .ensures)
+    (rw (bad .is-miscritical-at .ensures) at (judged .judge2 .ensures)))
 
 returns-3 : tie.Need-returns-3
 returns-3 c =
     let judged = c .before .before in
     let question = judged .before .before .before in
-    rw (question .enum-told3 .given .1, ← question .before .before .is-none .ensures) (judged .judge3 .ensures)
+    let none = question .before .before in
+    let a = none .before .before .args in
+    rw (question .enum-told3 .given .1)
+    (puts-value (a .v) (a .p) (a .list) (a .slot) (none .before .before .pre) _ (none .is-missing .ensures) (judged .judge3 .ensures))
 
 pub of-slot-spec : {M : Type 1} → statement M
 of-slot-spec =

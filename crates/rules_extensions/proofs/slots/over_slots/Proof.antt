@@ -8,7 +8,8 @@ use Rattle.rules_extensions.specs.Slots.{rowAt, rowsOver}
 use Rattle.rules_extensions.specs.declared.slots.Question.{Question}
 use Rattle.der.specs.declared.header.Head.{Head}
 use Rattle.profiles.specs.declared.fields.Profile.{Profile}
-use Rattle.certificate.specs.Slots.{slotCount}
+use Rattle.certificate.specs.Slots.{numbersFrom, slotCount}
+use Rattle.certificate.specs.Standing.{standingBy}
 use Rattle.certificate.specs.declared.slots.Slot.{Slot}
 use Rattle.facts.specs.Case.{slotIn}
 use Rattle.report.specs.Rows.{Row, findingsOf}
@@ -18,7 +19,7 @@ use Rattle.rules_extensions.proofs.slots.over_slots.Statement.{statemen
 use Rattle.rules_extensions.proofs.slots.over_slots.Tie as tie
 
 abbrev rowIn : Question → Profile → Head → List Slot → ℕ → Row
-rowIn question p list each k = rowAt question p list k (slotIn each k)
+rowIn question p list each k = rowAt question p list k (standingBy (slotIn each k))
 
 abbrev Inv-loop : tie.InvT-loop
 Inv-loop room₀ n question p list each count₀ slot₀ room count slot =
@@ -43,7 +44,7 @@ loop-again c =
     )
 
 returns : tie.Need-returns Inv-loop μ-loop
-unfolding rowsOver rowsFrom
+unfolding rowsOver rowsFrom numbersFrom
 returns c =
     let loop = c .before .loop in
     slots-end _ (loop .slot) _ (c .loop-test .left) (loop .inv .2)

@@ -1,12 +1,13 @@
 -- `rules_fields::algorithms::algorithms_and_name` meets its contract. Assumes nothing.
 use borrow.Author.Needs.{needs}
+use Rattle.profiles.specs.Judged.{judgedIn, rowOf}
 use Rattle.report.proofs.Laws.Rows.{_⟫_}
 use Rattle.rules_fields.specs.Algorithms.{signatureRows}
 use Rattle.rules_fields.proofs.algorithms.algorithms_and_name.Statement.{statement}
 use Rattle.rules_fields.proofs.algorithms.algorithms_and_name.Tie as tie
 
 returns : tie.Need-returns
-unfolding signatureRows
+unfolding signatureRows judgedIn rowOf
 returns c =
     let fourth = c .before .before in
     let third = fourth .before .before .before .before in

@@ -1,12 +1,13 @@
 -- `rules_fields::period::validity` meets its contract. Assumes nothing.
 use borrow.Author.Needs.{needs}
+use Rattle.profiles.specs.Judged.{judgedIn, rowOf}
 use Rattle.report.proofs.Laws.Rows.{_⟫_, same-rule}
 use Rattle.rules_fields.specs.Period.{validityRows}
 use Rattle.rules_fields.proofs.period.validity.Statement.{statement}
 use Rattle.rules_fields.proofs.period.validity.Tie as tie
 
 returns : tie.Need-returns
-unfolding validityRows
+unfolding validityRows judgedIn rowOf
 returns c =
     let fourth = c .before .before in
     let third = fourth .before .before .before .before in

@@ -1,12 +1,13 @@
 -- `rules_fields::version::version_and_serial` meets its contract. Assumes nothing.
 use borrow.Author.Needs.{needs}
+use Rattle.profiles.specs.Judged.{judgedIn, rowOf}
 use Rattle.report.proofs.Laws.Rows.{_⟫_}
 use Rattle.rules_fields.specs.Version.{versionRows}
 use Rattle.rules_fields.proofs.version.version_and_serial.Statement.{statement}
 use Rattle.rules_fields.proofs.version.version_and_serial.Tie as tie
 
 returns : tie.Need-returns
-unfolding versionRows
+unfolding versionRows judgedIn rowOf
 returns c =
     let fourth = c .before .before in
     let third = fourth .before .before .before .before in

@@ -1,12 +1,13 @@
 -- `rules_key::algorithm::algorithm_rules` meets its contract. Assumes nothing.
 use borrow.Author.Needs.{needs}
+use Rattle.profiles.specs.Judged.{judgedIn, rowOf}
 use Rattle.rules_key.specs.Algorithm.{algorithmRows}
 use Rattle.report.proofs.Laws.Rows.{_⟫_}
 use Rattle.rules_key.proofs.algorithm.algorithm_rules.Statement.{statement}
 use Rattle.rules_key.proofs.algorithm.algorithm_rules.Tie as tie
 
 returns : tie.Need-returns
-unfolding algorithmRows
+unfolding algorithmRows judgedIn rowOf
 returns c =
     let third = c .before .before in
     let second = third .before .before .before .before in

@@ -1,12 +1,13 @@
 -- `rules_subject::attributes::name_and_country` meets its contract. Assumes nothing.
 use borrow.Author.Needs.{needs}
+use Rattle.profiles.specs.Judged.{judgedIn, rowOf}
 use Rattle.rules_subject.specs.Attributes.{countryRows}
 use Rattle.report.proofs.Laws.Rows.{_⟫_}
 use Rattle.rules_subject.proofs.attributes.name_and_country.Statement.{statement}
 use Rattle.rules_subject.proofs.attributes.name_and_country.Tie as tie
 
 returns : tie.Need-returns
-unfolding countryRows
+unfolding countryRows judgedIn rowOf
 returns c =
     let fourth = c .before .before in
     let third = fourth .before .before .before .before in

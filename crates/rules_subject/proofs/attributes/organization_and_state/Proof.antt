@@ -1,12 +1,13 @@
 -- `rules_subject::attributes::organization_and_state` meets its contract. Assumes nothing.
 use borrow.Author.Needs.{needs}
+use Rattle.profiles.specs.Judged.{judgedIn, rowOf}
 use Rattle.rules_subject.specs.Attributes.{organizationRows}
 use Rattle.report.proofs.Laws.Rows.{_⟫_}
 use Rattle.rules_subject.proofs.attributes.organization_and_state.Statement.{statement}
 use Rattle.rules_subject.proofs.attributes.organization_and_state.Tie as tie
 
 returns : tie.Need-returns
-unfolding organizationRows
+unfolding organizationRows judgedIn rowOf
 returns c =
     let fourth = c .before .before in
     let third = fourth .before .before .before .before in

@@ -1,14 +1,15 @@
 -- `rules_subject::common_name::name_and_sets` meets its contract. Assumes nothing.
 use borrow.Author.Needs.{needs}
+use Rattle.profiles.specs.Judged.{judgedIn, rowOf}
 use Rattle.rules_subject.specs.CommonName.{isUnnamed, nameRows}
 use denote.Ref.{now}
-use Rattle.forms.proofs.Laws.Values.{good-at}
+use Rattle.forms.proofs.Laws.Values.{good-at, by-standing}
 use Rattle.report.proofs.Laws.Rows.{_⟫_, puts-asked}
 use Rattle.rules_subject.proofs.common_name.name_and_sets.Statement.{statement}
 use Rattle.rules_subject.proofs.common_name.name_and_sets.Tie as tie
 
 returns : tie.Need-returns
-unfolding nameRows
+unfolding nameRows judgedIn rowOf
 returns c =
     let sets = c .before .before in
     let name = sets .before .before .before .before in
@@ -20,7 +21,8 @@ returns c =
     let cn = found .first-within .result in
     let bad = isUnnamed (now (a .s)) cn (v .element) in
     let first = puts-asked (a .p) 120 (v .good) bad cn (rw (judged .is-unnamed .ensures, asked .holds .ensures) at (name .judge .ensures)) in
-    rw (← found .first-within .ensures) (rw (good-at v bad cn) at first ⟫ sets .judge-each .ensures)
+    let put = rw (found .first-within .ensures) at (rw (good-at v bad cn) at first ⟫ sets .judge-each .ensures) in
+    by-standing (a .p) v (nameRows (now (a .s)) (a .name)) (λ t. rw t at put) (λ t. rw t at put) (λ t. rw t at put)
 
 pub name-and-sets-spec : {M : Type 1} → statement M
 name-and-sets-spec =
