@@ -10,7 +10,7 @@ use mathlib.Core.Path.{_≡_}
 use Prim.Native.Nat.{ℕ, _*_, _<_}
 use lib.ListN.{getD, drop}
 use Rattle.der.specs.declared.header.Head.{Head}
-use Rattle.profiles.specs.Judged.{judges}
+use Rattle.profiles.specs.Judged.{judgedBy}
 use Rattle.profiles.specs.declared.fields.Profile.{Profile}
 use Rattle.certificate.specs.Issuer.{knownOf}
 use Rattle.report.specs.Entries.{width, decode}
@@ -45,7 +45,7 @@ pub record ExactReport (p : Profile) (certificate issuer room : List ℕ) (n : �
   -- "with the field or, for an absence, the enclosing structure": each at an element of the certificate, by its start and whole length
   pub elements : AtElements certificate (decode n last)
   -- "an empty report means that no judged rule is broken"
-  pub empty : (n ≡ 0) ↔ ((r : Row) → In r (rulesOn p certificate issuer) → judges p (r .rule) ≡ true → r .broken ≡ [])
+  pub empty : (n ≡ 0) ↔ ((r : Row) → In r (rulesOn p certificate issuer) → judgedBy p (r .profiles) ≡ true → r .broken ≡ [])
   -- "bytes after the last are untouched" (document 01)
   pub rest : drop (width * n) last ≡ drop (width * n) room
 

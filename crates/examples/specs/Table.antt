@@ -22,13 +22,13 @@ use Rattle.profiles.specs.declared.fields.Profile.the-variants.{Domain, Organiz
 use Rattle.certificate.specs.declared.key.KeyKind.{KeyKind}
 use Rattle.certificate.specs.declared.key.KeyKind.the-variants.{Rsa, EllipticCurve}
 use Rattle.certificate.specs.declared.fields.Certificate.{Certificate}
-use Rattle.certificate.specs.declared.slots.Slot.{Slot}
-use Rattle.report.specs.Rows.{Row, _⦂_}
+use Rattle.certificate.specs.Standing.{Standing, byValue}
+use Rattle.profiles.specs.Judged.{everyProfile}
+use Rattle.report.specs.Rows.{Row, _for_⦂_}
 use Rattle.rules_fields.specs.Period.{validityRows}
 use Rattle.rules_extensions.specs.Slots.{rule340}
 use Rattle.rules_values.specs.Usage.{usageRows}
 use Rattle.policies.specs.Policies.{isBelow, federalArc}
-use Rattle.asn.specs.Answers.{valueOk}
 use Rattle.lint.specs.Refusals.{answerValues}
 use Rattle.lint.specs.Answers.{answerOf}
 use Rattle.listing.specs.Listing.{printed}
@@ -112,22 +112,15 @@ validityBreaks p (Is a) (Is b) = breaks (brokenRules (validityRows p (certificat
 validityBreaks p (Is a) Bad = senseless
 validityBreaks p Bad b = senseless
 
--- an OCTET STRING that holds these octets, and slot 4 with it
+-- an OCTET STRING that holds these octets, and key usage, slot 4, with it
 abbrev pub heldOctets : List ℕ → List ℕ
 heldOctets value = 4 ∷ length value ∷ value
 
-abbrev pub usageSlot : List ℕ → Slot
-usageSlot s =
-    record {
-      place = headOf s 0 (length s);
-      critical = true;
-      holder = headOf s 0 (length s);
-      element = headOf s 2 (length s);
-      good = valueOk s 4 2 (length s);
-    }
+abbrev pub usageStanding : List ℕ → Standing
+usageStanding s = byValue s 4 (record { place = headOf s 0 (length s); critical = true; value = headOf s 0 (length s) })
 
 abbrev pub usageBreaks : Profile → KeyKind → List ℕ → Reply
-usageBreaks p kind s = breaks (brokenRules (344 ⦂ rule340 (usageSlot s) ∷ usageRows p s kind (usageSlot s)))
+usageBreaks p kind s = breaks (brokenRules (344 for everyProfile ⦂ rule340 (usageStanding s) ∷ usageRows p s kind (usageStanding s)))
 
 abbrev pub toldBy : Values → Reply
 toldBy v = refusal (v .number) (v .side) (v .place)

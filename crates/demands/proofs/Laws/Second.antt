@@ -8,7 +8,7 @@ use native.Mathlib.Omega.{arith}
 use lib.ListN.{length, drop}
 use lib.Seq.{drop-at}
 use Rattle.demands.specs.Second.{rulesOn, SaysBroken, ExactReport, Demand2}
-use Rattle.profiles.specs.Judged.{judges}
+use Rattle.profiles.specs.Judged.{judgedBy}
 use Rattle.profiles.specs.declared.fields.Profile.{Profile}
 use Rattle.certificate.specs.Issuer.{knownOf}
 use Rattle.report.specs.Answers.{enoughRoom, filled}
@@ -84,7 +84,7 @@ module _ (p : Profile) (certificate issuer : List ℕ) (profile : ℕ) (room : L
   unfolding findings
   in-rules e = finding-in p certificate (knownOf issuer) e
 
-  no-rule : (es ≡ []) ↔ ((r : Row) → In r (rulesOn p certificate issuer) → judges p (r .rule) ≡ true → r .broken ≡ [])
+  no-rule : (es ≡ []) ↔ ((r : Row) → In r (rulesOn p certificate issuer) → judgedBy p (r .profiles) ≡ true → r .broken ≡ [])
   unfolding findings
   no-rule = none-broken p certificate (knownOf issuer)
 

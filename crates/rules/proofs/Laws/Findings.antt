@@ -7,7 +7,7 @@
 --     none-broken           there is none exactly if no rule that is judged is broken
 --     found-by-facts        what the facts that are read give
 -- Assumes nothing.
-use mathlib.Core.Path.{_≡_, refl, subst}
+use mathlib.Core.Path.{_≡_, refl, ap, subst, _∙_}
 use mathlib.Core.List.{List, [], _++_, map}
 use mathlib.Core.Bool.{true}
 use mathlib.Core.Logic.{_↔_}
@@ -17,7 +17,7 @@ use Rattle.rules.specs.Rules.{allRules, rulesFor, findingsFor, findings}
 use Rattle.der.specs.declared.header.Head.{Head}
 use Rattle.asn.specs.Answers.{certificateVerdict}
 use Rattle.asn.specs.declared.fitting.Verdict.the-variants.{Fits}
-use Rattle.profiles.specs.Judged.{ruleLimit, judges}
+use Rattle.profiles.specs.Judged.{ruleLimit, judgedBy}
 use Rattle.profiles.specs.declared.fields.Profile.{Profile}
 use Rattle.certificate.specs.Issuer.{Known, knownOf}
 use Rattle.certificate.specs.Slots.{numbersFrom}
@@ -25,6 +25,7 @@ use Rattle.certificate.proofs.Laws.Inside.{between-spans}
 use Rattle.facts.specs.Case.{Case, factsOf, caseOf, caseIn}
 use Rattle.facts.specs.Elements.{Element}
 use Rattle.facts.specs.declared.Facts.{Facts}
+use Rattle.facts.proofs.Laws.Case.{case-is}
 use Rattle.facts.proofs.Laws.Inside.{element-inside}
 use Rattle.report.specs.Entries.{entryAt}
 use Rattle.report.specs.Order.{In, Ordered, EntriesInside}
@@ -69,7 +70,7 @@ module _ (p : Profile) (s : List ℕ) (k : Known) where
   rules-ok : certificateVerdict s ≡ Fits → RowsOk (Element s) (rulesFor p s k)
   unfolding allRules
   rules-ok e =
-      ok-join (fields-ok s e p k) (ok-join (subject-ok s e p k) (ok-join (key-ok s e p k) (ok-join (extensions-ok s e p k) (values-ok s e p k))))
+      ok-join (fields-ok s e p k) (ok-join (subject-ok s e p k) (ok-join (key-ok s e p k) (ok-join (extensions-ok s e p k) (values-ok s e k p))))
 
   known-ordered : certificateVerdict s ≡ Fits → Ordered 101 ruleLimit (findingsFor p s k)
   unfolding findingsFor
@@ -87,7 +88,7 @@ module _ (p : Profile) (s : List ℕ) (k : Known) where
   unfolding findingsFor
   finding-in = rows-in p (rulesFor p s k)
 
-  pub none-broken : (findingsFor p s k ≡ []) ↔ ((r : Row) → In r (rulesFor p s k) → judges p (r .rule) ≡ true → r .broken ≡ [])
+  pub none-broken : (findingsFor p s k ≡ []) ↔ ((r : Row) → In r (rulesFor p s k) → judgedBy p (r .profiles) ≡ true → r .broken ≡ [])
   unfolding findingsFor
   none-broken = none-broken-of p (rulesFor p s k)
 
@@ -105,5 +106,5 @@ module _ (p : Profile) (s issuer : List ℕ) where
   findings-inside e = known-inside p s (knownOf issuer) e
 
   pub found-by-facts : (f : Facts) → f ≡ factsOf s issuer → findingsOf p (allRules p (caseOf s f issuer)) ≡ findings p s issuer
-  unfolding findings findingsFor factsOf knownOf
-  found-by-facts f e = λ i. findingsOf p (allRules p (caseOf s (e i) issuer))
+  unfolding findings findingsFor
+  found-by-facts f e = (λ i. findingsOf p (allRules p (caseOf s (e i) issuer))) ∙ ap (λ (c : Case). findingsOf p (allRules p c)) (case-is s issuer)
