@@ -1,13 +1,12 @@
 -- Where an element departs from a type.
 --     departure-start      the place of refusal 6 is the start of an element of its side
 -- Assumes nothing.
-use mathlib.Core.Path.{_≡_, refl, sym, ap, _∙_}
+use mathlib.Core.Path.{_≡_, refl, ap, _∙_}
 use mathlib.Core.List.{List, [], _∷_, List·Memᴰ, List·Memᴰ·eq-of-singleton}
 use mathlib.Core.List.List·Memᴰ.{List·Memᴰ·head, List·Memᴰ·tail}
 use mathlib.Core.Bool.{Bool, true, false, cond, not, _&&_}
 use Prim.Native.Nat.{ℕ, _<_}
 use native.Mathlib.Nat.{le-refl}
-use native.Mathlib.Omega.{arith}
 use lib.Dec.{eqb}
 use lib.ListN.{length}
 use borrow.Author.Tests.{not-true}
@@ -147,8 +146,8 @@ module _ (s : List ℕ) where
         (λ hs l. follows-start p (and-r (listsHeld f) (fieldsHeld p) c) place o hs l) hs k
 
   -- one element that fills the octets is the only one in their list
-  alone : 0 < length s → headOf s 0 (length s) .end ≡ length s → SideElements (childrenOf s 0 (length s))
-  alone l e h i =
+  outermost-alone : 0 < length s → headOf s 0 (length s) .end ≡ length s → SideElements (childrenOf s 0 (length s))
+  outermost-alone l e h i =
       let none-left = children-done s (length s) (length s) (le-refl (length s)) in
       let one : childrenOf s 0 (length s) ≡ headOf s 0 (length s) ∷ [] = cc (children-next s 0 (length s) l, none-left, e) in
       outer (List·Memᴰ·eq-of-singleton (rw one at i))
@@ -156,4 +155,4 @@ module _ (s : List ℕ) where
   pub departure-start : 0 < length s → headOf s 0 (length s) .end ≡ length s → ElementStart s (verdictPlace (certificateVerdict s))
   unfolding certificateVerdict
   departure-start l e =
-      follows-start (one certificate done) certificate-held 0 (outermost-start s) (childrenOf s 0 (length s)) (alone l e) .start
+      follows-start (one certificate done) certificate-held 0 (outermost-start s) (childrenOf s 0 (length s)) (outermost-alone l e) .start

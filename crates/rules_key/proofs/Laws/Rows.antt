@@ -35,7 +35,6 @@ use Rattle.facts.specs.Elements.Topmost.{in-bits}
 use Rattle.facts.specs.Kinds.{isRsa}
 use Rattle.facts.proofs.Laws.Key.{algorithm-element, bits-element}
 use Rattle.facts.proofs.Laws.Members.{here, among, same-element, members-by}
-use Rattle.report.specs.Order.{In}
 use Rattle.report.specs.Rows.{_⦂_, brokenAt, RowOk, RowsOk}
 use Rattle.report.specs.Rows.RowsOk.{no-rows, more-rows}
 use Rattle.report.proofs.Laws.Rows.{at-ok}
