@@ -118,7 +118,7 @@ pub record ByTable (table : List RefusalRow) (otherwise values : Values) : Type 
 pub record LinterAnswers (certificate issuer : List ℕ) (profile : ℕ) (room : List ℕ) (r : Answer) (last : List ℕ) : Type 0 where
   pub tabled :
       ByTable (lintTable certificate issuer (askedOf profile) room) (unrefused (length (foundUnder (askedOf profile) certificate issuer))) (answerValues r)
-  -- "A refusal's place is a start within its side."
+  -- "A refusal's place is a start within its side": the place is the start of an element of its side.
   pub within : (q : Refusal) → r ≡ Answers.Refused q → WithinSide certificate issuer q
   pub kept : (q : Refusal) → r ≡ Answers.Refused q → last ≡ room
 

@@ -1,9 +1,11 @@
 -- The elements within an element, as the walk meets them.
-use mathlib.Core.List.{List, [], _∷_, _++_}
+use mathlib.Core.Path.{_≡_}
+use mathlib.Core.List.{List, [], _∷_, _++_, List·Memᴰ}
 use mathlib.Core.Bool.{Bool, false, cond, _||_}
 use Prim.Native.Nat.{ℕ, zero, suc}
 use lib.Dec.{leb}
-use Rattle.der.specs.Header.{childrenOf}
+use lib.ListN.{length}
+use Rattle.der.specs.Header.{headOf, childrenOf}
 use Rattle.der.specs.Contents.{constructed}
 use Rattle.der.specs.Members.{missing}
 use Rattle.der.specs.declared.header.Head.{Head}
@@ -11,6 +13,21 @@ use Rattle.der.specs.declared.header.Head.{Head}
 -- "In a constructed one, an element holds a list of elements"
 abbrev pub heldBy : List ℕ → Head → List Head
 heldBy s h = cond (constructed (h .tag)) (childrenOf s (h .body) (h .end)) []
+
+-- one of these elements, or one of the list that such an element holds: "each again such an element"
+pub data HeldFrom (s : List ℕ) (These : Head → Type 0) : Head → Type 0 where
+  outer : {h : Head} → These h → HeldFrom s These h
+  held : {holder h : Head} → HeldFrom s These holder → List·Memᴰ h (heldBy s holder) → HeldFrom s These h
+
+-- an element of a side: the outermost one, with which the octets start, and all that it holds
+abbrev pub SideElement : List ℕ → Head → Type 0
+SideElement s = HeldFrom s (λ (h : Head). h ≡ headOf s 0 (length s))
+
+-- a place is the start of an element of a side
+pub record ElementStart (s : List ℕ) (place : ℕ) : Type 0 where
+  pub element : Head
+  pub is : SideElement s element
+  pub start : place ≡ element .at
 
 -- an element as the walk meets it, and the levels that are left for it: one with none left is too deep
 pub record Node : Type 0 where

@@ -7,7 +7,7 @@ use Prim.Native.Nat.{ℕ, _+_}
 use lib.ListN.{length}
 use Rattle.octets.specs.Octets.{octetAt}
 use Rattle.der.specs.Header.{headOf, childrenOf}
-use Rattle.der.specs.Elements.{heldBy}
+use Rattle.der.specs.Elements.{HeldFrom}
 use Rattle.der.specs.Soundness.{stretchSoundness}
 use Rattle.der.specs.declared.header.Head.{Head}
 use Rattle.der.specs.declared.walk.Soundness.the-variants.{Sound}
@@ -39,18 +39,20 @@ pub record RsaBits (s : List ℕ) (b : Head) : Type 0 where
   pub is : b ≡ subjectKey s .bits
   pub unused : octetAt s (b .body) ≡ 0
 
--- an element of the octets s
-pub data Element (s : List ℕ) : Head → Type 0 where
+-- an element that no other holds: it fills the octets, or those within a primitive element
+pub data Topmost (s : List ℕ) : Head → Type 0 where
   -- "One outermost element fills the bytes"
-  outermost : Element s (headOf s 0 (length s))
-  -- "In a constructed one, an element holds a list of elements, each again such an element"
-  held : {holder h : Head} → Element s holder → In h (heldBy s holder) → Element s h
+  outermost : Topmost s (headOf s 0 (length s))
   -- an extension's value v "is .. exactly one sound element"
   in-value : {x v : Head} → In x (extensionsOf s) → v ≡ extensionOf s x .value → Fills s (v .body) (v .end)
-      → Element s (headOf s (v .body) (v .end))
+      → Topmost s (headOf s (v .body) (v .end))
   -- the bits b are "exactly a sound SEQUENCE"
   in-bits : {b : Head} → RsaBits s b → Fills s (bitsStart b) (b .end) → headOf s (bitsStart b) (b .end) .tag ≡ 0x30
-      → Element s (headOf s (bitsStart b) (b .end))
+      → Topmost s (headOf s (bitsStart b) (b .end))
+
+-- an element of the octets s: "In a constructed one, an element holds a list of elements, each again such an element"
+abbrev pub Element : List ℕ → Head → Type 0
+Element s = HeldFrom s (Topmost s)
 
 -- every element of a list
 abbrev pub AllElements : List ℕ → List Head → Type 0

@@ -1,14 +1,17 @@
 -- The fields of what fits, one by one.
+--     takes-tag                             what a type takes by its identifier has that identifier
 --     parts-fit                             an element that fits a SEQUENCE or tag: its identifier, and its members against the fields
 --     one-fits, opt-fits, done-fits         a field that must be there, one that may, and the end
 --     certificate-fields, tbs-fields        where the fields of a certificate are
 -- Assumes nothing.
-use mathlib.Core.Path.{_≡_, refl, ap, _∙_}
+use mathlib.Core.Path.{_≡_, refl, sym, ap, _∙_}
 use mathlib.Core.List.{List, [], _∷_, _++_, append-nil}
 use mathlib.Core.Bool.{Bool, true, false, cond}
 use Prim.Native.Nat.{ℕ}
 use native.Mathlib.Omega.{arith}
+use lib.Dec.{eqb}
 use lib.ListN.{length}
+use borrow.Author.Tests.{eqb-true}
 use Rattle.asn.specs.Grammar.{Form, Slots, takes, unlessWrong, fits, holds, follows}
 use Rattle.asn.specs.Grammar.Form.{none, alt}
 use Rattle.asn.specs.Grammar.Inside.{parts}
@@ -21,6 +24,9 @@ use Rattle.asn.specs.declared.fitting.Verdict.{Verdict}
 use Rattle.asn.specs.declared.fitting.Verdict.the-variants.{Stranger, Fits, Wrong}
 use Rattle.der.specs.Header.{childrenOf}
 use Rattle.der.specs.declared.header.Head.{Head}
+
+pub takes-tag : (i tag : ℕ) → eqb i 0 ≡ false → takes i tag ≡ true → tag ≡ i
+takes-tag i tag z t = sym (eqb-true i tag (rw z at t))
 
 pub parts-fit : (i : ℕ) (p : Slots) (s : List ℕ) (h : Head) → fits (alt i (parts p) none) s h ≡ Fits
     → (takes i (h .tag) ≡ true) × (follows p s (h .at) (childrenOf s (h .body) (h .end)) ≡ Fits)

@@ -1,117 +1,158 @@
 -- Where an element departs from a type.
---     departure-inside     "a refusal's place is a start within its side", of refusal 6
+--     departure-start      the place of refusal 6 is the start of an element of its side
 -- Assumes nothing.
-use mathlib.Core.List.{List, [], _∷_}
-use mathlib.Core.Bool.{Bool, true, false, cond}
-use Prim.Native.Nat.{ℕ, _≤_, _<_}
-use native.Mathlib.Nat.{le-trans, le-refl, lt-of-lt-of-le}
-use native.Mathlib.Omega.{arith}
+use mathlib.Core.Path.{_≡_, refl, ap, _∙_}
+use mathlib.Core.List.{List, [], _∷_, List·Memᴰ, List·Memᴰ·eq-of-singleton}
+use mathlib.Core.List.List·Memᴰ.{List·Memᴰ·head, List·Memᴰ·tail}
+use mathlib.Core.Bool.{Bool, true, false, cond, not, _&&_}
+use Prim.Native.Nat.{ℕ, _<_}
+use native.Mathlib.Nat.{le-refl}
+use lib.Dec.{eqb}
 use lib.ListN.{length}
+use borrow.Author.Tests.{not-true}
 use Rattle.asn.specs.Grammar.{Form, Inside, Slots, setInOrder, takes, passes, unlessWrong, required, optional, repeated, ended, fits, holds, follows}
 use Rattle.asn.specs.Grammar.Form.{none, alt}
 use Rattle.asn.specs.Grammar.Inside.{leaf, parts, set}
 use Rattle.asn.specs.Grammar.Slots.{done, one, opt, many}
-use Rattle.asn.specs.Module.{certificate}
+use Rattle.asn.specs.Module.{algorithmIdentifier, attributeTypeAndValue, relativeDistinguishedName, name, time, validity, subjectPublicKeyInfo}
+use Rattle.asn.specs.Module.{extension, extensions, version, tbsCertificate, certificate}
 use Rattle.asn.specs.Answers.{certificateVerdict, verdictPlace}
 use Rattle.asn.specs.declared.fitting.Verdict.{Verdict}
 use Rattle.asn.specs.declared.fitting.Verdict.the-variants.{Stranger, Fits, Wrong}
-use Rattle.der.specs.Contents.{contentsOf}
-use Rattle.der.specs.Header.{childrenOf}
-use Rattle.der.specs.Walking.{Chain}
-use Rattle.der.specs.Walking.Chain.{done as no-more, next}
+use Rattle.octets.proofs.Laws.Tests.{and-l, and-r}
+use Rattle.der.specs.Contents.{constructed, contentsOf}
+use Rattle.der.specs.Header.{headOf, childrenOf}
+use Rattle.der.specs.Members.{membersIn}
+use Rattle.der.specs.Elements.{SideElement, ElementStart}
+use Rattle.der.specs.Elements.HeldFrom.{outer}
 use Rattle.der.specs.declared.header.Head.{Head}
-use Rattle.der.proofs.Laws.Header.{head-start, head-forward, head-body}
-use Rattle.der.proofs.Laws.Walking.{children-chain}
+use Rattle.der.proofs.Laws.Children.{children-done, children-next}
+use Rattle.der.proofs.Laws.Places.{held-members, outermost-start}
+use Rattle.asn.proofs.Laws.Fields.{takes-tag}
 
--- all that lies below a bound, which is no smaller than 1
-module _ (s : List ℕ) (to : ℕ) (some : 0 < to) where
-  -- an element below the bound
-  record Low (h : Head) : Type 0 where
-    starts : h .at < to
-    forward : h .body ≤ h .end
-    ends : h .end ≤ to
+-- ---- a type gives a list to a constructed identifier alone, so what it asks of the list it asks of elements that are held
 
-  -- elements below the bound
-  abbrev AllLow : List Head → Type 0
-  AllLow [] = Unit {0}
-  AllLow (h ∷ hs) = Low h × AllLow hs
+abbrev ofList : ℕ → Bool
+ofList i = not (eqb i 0) && constructed i
 
-  chain-low : {at end : ℕ} {hs : List Head} → end ≤ to → Chain s end at hs → AllLow hs
-  chain-low e no-more = tt
-  chain-low {end = end} e (next {at = at} l r) =
-      let f = head-forward s at end l in
-      (record { starts = rw (head-start s at end) (lt-of-lt-of-le l e); forward = head-body s at end l .1; ends = le-trans (f .1) e }, chain-low e r)
+unfoldable mutual
+  listsHeld : Form → Bool
+  listsHeld none = true
+  listsHeld (alt i x f) = insideHeld i x && listsHeld f
 
-  children-low : (at end : ℕ) → at ≤ end → end ≤ to → AllLow (childrenOf s at end)
-  children-low at end l e = chain-low e (children-chain s at end l)
+  insideHeld : ℕ → Inside → Bool
+  insideHeld i (leaf t) = true
+  insideHeld i (parts p) = ofList i && fieldsHeld p
+  insideHeld i (set p) = ofList i && fieldsHeld p
 
-  members-low : (h : Head) → Low h → AllLow (childrenOf s (h .body) (h .end))
-  members-low h k = children-low (h .body) (h .end) (k .forward) (k .ends)
+  fieldsHeld : Slots → Bool
+  fieldsHeld done = true
+  fieldsHeld (one f p) = listsHeld f && fieldsHeld p
+  fieldsHeld (opt f p) = listsHeld f && fieldsHeld p
+  fieldsHeld (many f p) = listsHeld f && fieldsHeld p
 
-  -- ---- verdicts below the bound
+certificate-held : fieldsHeld (one certificate done) ≡ true
+unfolding listsHeld insideHeld fieldsHeld certificate tbsCertificate algorithmIdentifier attributeTypeAndValue relativeDistinguishedName name time
+    validity subjectPublicKeyInfo extension extensions version
+certificate-held = refl
 
-  record LowVerdict (v : Verdict) : Type 0 where
-    below : verdictPlace v < to
+module _ (s : List ℕ) where
+  abbrev SideElements : List Head → Type 0
+  SideElements hs = (h : Head) → List·Memᴰ h hs → SideElement s h
 
-  fits-at : LowVerdict Fits
-  fits-at = record { below = some }
+  first-of : {h : Head} {hs : List Head} → SideElements (h ∷ hs) → SideElement s h
+  first-of {h} k = k h (List·Memᴰ·head refl)
 
-  wrong-at : {p : ℕ} → p < to → LowVerdict (Wrong p)
-  wrong-at l = record { below = l }
+  rest-of : {h : Head} {hs : List Head} → SideElements (h ∷ hs) → SideElements hs
+  rest-of k x i = k x (List·Memᴰ·tail i)
 
-  either : (b : Bool) {v w : Verdict} → LowVerdict v → LowVerdict w → LowVerdict (cond b v w)
-  either true k l = k
-  either false k l = l
+  members-held : (i : ℕ) (h : Head) → ofList i ≡ true → takes i (h .tag) ≡ true → SideElement s h → SideElements (membersIn s h)
+  members-held i h c t k =
+      let tag = takes-tag i (h .tag) (not-true (eqb i 0) (and-l (not (eqb i 0)) (constructed i) c)) t in
+      held-members h (ap constructed tag ∙ and-r (not (eqb i 0)) (constructed i) c) k
 
-  after-low : (v : Verdict) {a b : Verdict} → LowVerdict v → LowVerdict a → LowVerdict b → LowVerdict (unlessWrong v a b)
-  after-low Stranger v a b = a
-  after-low Fits v a b = b
-  after-low (Wrong p) v a b = v
+  -- ---- verdicts at the start of an element
 
-  module _ (fit : Head → Verdict) (rest : List Head → Verdict) (fit-low : (h : Head) → Low h → LowVerdict (fit h))
-      (rest-low : (hs : List Head) → AllLow hs → LowVerdict (rest hs)) where
-    required-low : (outer : ℕ) → outer < to → (hs : List Head) → AllLow hs → LowVerdict (required fit rest outer hs)
-    required-low outer o [] k = wrong-at o
-    required-low outer o (h ∷ hs) k = after-low (fit h) (fit-low h (k .0)) (wrong-at (k .0 .starts)) (rest-low hs (k .1))
+  record StartVerdict (v : Verdict) : Type 0 where
+    start : ElementStart s (verdictPlace v)
 
-    optional-low : (hs : List Head) → AllLow hs → LowVerdict (optional fit rest hs)
-    optional-low [] k = rest-low [] k
-    optional-low (h ∷ hs) k = after-low (fit h) (fit-low h (k .0)) (rest-low (h ∷ hs) k) (rest-low hs (k .1))
+  wrong-at : {h : Head} → SideElement s h → StartVerdict (Wrong (h .at))
+  wrong-at {h} k = record { start = record { element = h; is = k; start = refl } }
 
-    repeated-low : (hs : List Head) → AllLow hs → LowVerdict (repeated fit rest hs)
-    repeated-low [] k = rest-low [] k
-    repeated-low (h ∷ hs) k = after-low (fit h) (fit-low h (k .0)) (rest-low (h ∷ hs) k) (repeated-low hs (k .1))
+  by-test : (b : Bool) {v w : Verdict} → (b ≡ true → StartVerdict v) → StartVerdict w → StartVerdict (cond b v w)
+  by-test true k l = k refl
+  by-test false k l = l
 
-  ended-low : (hs : List Head) → AllLow hs → LowVerdict (ended hs)
-  ended-low [] k = fits-at
-  ended-low (h ∷ hs) k = wrong-at (k .0 .starts)
+  after-start : (v : Verdict) {a b : Verdict} → StartVerdict v → StartVerdict a → StartVerdict b → StartVerdict (unlessWrong v a b)
+  after-start Stranger v a b = a
+  after-start Fits v a b = b
+  after-start (Wrong p) v a b = v
+
+  module _ (fit : Head → Verdict) (rest : List Head → Verdict) (fit-start : (h : Head) → SideElement s h → StartVerdict (fit h))
+      (rest-start : (hs : List Head) → SideElements hs → StartVerdict (rest hs)) where
+    required-start : (place : ℕ) → ElementStart s place → (hs : List Head) → SideElements hs → StartVerdict (required fit rest place hs)
+    required-start place o [] k = record { start = o }
+    required-start place o (h ∷ hs) k = after-start (fit h) (fit-start h (first-of k)) (wrong-at (first-of k)) (rest-start hs (rest-of k))
+
+    optional-start : (hs : List Head) → SideElements hs → StartVerdict (optional fit rest hs)
+    optional-start [] k = rest-start [] k
+    optional-start (h ∷ hs) k = after-start (fit h) (fit-start h (first-of k)) (rest-start (h ∷ hs) k) (rest-start hs (rest-of k))
+
+    repeated-start : (hs : List Head) → SideElements hs → StartVerdict (repeated fit rest hs)
+    repeated-start [] k = rest-start [] k
+    repeated-start (h ∷ hs) k = after-start (fit h) (fit-start h (first-of k)) (rest-start (h ∷ hs) k) (repeated-start hs (rest-of k))
+
+  ended-start : (hs : List Head) → SideElements hs → StartVerdict (ended hs)
+  ended-start [] k = record { start = outermost-start s }
+  ended-start (h ∷ hs) k = wrong-at (first-of k)
 
   -- ---- an element, what it holds, and a list
 
+  abbrev ListStarts : Slots → Type 0
+  ListStarts p =
+      fieldsHeld p ≡ true → (place : ℕ) → ElementStart s place → (hs : List Head) → SideElements hs → StartVerdict (follows p s place hs)
+
+  list-start : (i : ℕ) (p : Slots) → ListStarts p → (ofList i && fieldsHeld p) ≡ true → (h : Head) → takes i (h .tag) ≡ true → SideElement s h
+      → StartVerdict (follows p s (h .at) (membersIn s h))
+  list-start i p starts c h t k =
+      starts (and-r (ofList i) (fieldsHeld p) c) (h .at) (wrong-at k .start) (membersIn s h) (members-held i h (and-l (ofList i) (fieldsHeld p) c) t k)
+
   mutual
-    unfolding fits holds follows
+    unfolding fits holds follows listsHeld insideHeld fieldsHeld
 
-    fits-low : (f : Form) (h : Head) → Low h → LowVerdict (fits f s h)
-    fits-low none h k = record { below = some }
-    fits-low (alt i x f) h k = either (takes i (h .tag)) (holds-low x h k) (fits-low f h k)
+    fits-start : (f : Form) → listsHeld f ≡ true → (h : Head) → SideElement s h → StartVerdict (fits f s h)
+    fits-start none c h k = record { start = outermost-start s }
+    fits-start (alt i x f) c h k =
+        by-test (takes i (h .tag)) (λ t. holds-start i x (and-l (insideHeld i x) (listsHeld f) c) h t k)
+        (fits-start f (and-r (insideHeld i x) (listsHeld f) c) h k)
 
-    holds-low : (x : Inside) (h : Head) → Low h → LowVerdict (holds x s h)
-    holds-low (leaf t) h k = either (passes t (h .tag) (contentsOf s h)) fits-at (wrong-at (k .starts))
-    holds-low (parts p) h k = follows-low p (h .at) (k .starts) (childrenOf s (h .body) (h .end)) (members-low h k)
-    holds-low (set p) h k =
-        either (setInOrder s h) (follows-low p (h .at) (k .starts) (childrenOf s (h .body) (h .end)) (members-low h k)) (wrong-at (k .starts))
+    holds-start : (i : ℕ) (x : Inside) → insideHeld i x ≡ true → (h : Head) → takes i (h .tag) ≡ true → SideElement s h → StartVerdict (holds x s h)
+    holds-start i (leaf t) c h q k = by-test (passes t (h .tag) (contentsOf s h)) (λ e. record { start = outermost-start s }) (wrong-at k)
+    holds-start i (parts p) c h q k = list-start i p (λ d place o hs l. follows-start p d place o hs l) c h q k
+    holds-start i (set p) c h q k =
+        by-test (setInOrder s h) (λ e. list-start i p (λ d place o hs l. follows-start p d place o hs l) c h q k) (wrong-at k)
 
-    follows-low : (p : Slots) (outer : ℕ) → outer < to → (hs : List Head) → AllLow hs → LowVerdict (follows p s outer hs)
-    follows-low done outer o hs k = ended-low hs k
-    follows-low (one f p) outer o hs k =
-        required-low (λ h. fits f s h) (λ hs. follows p s outer hs) (λ h l. fits-low f h l) (λ hs l. follows-low p outer o hs l) outer o hs k
-    follows-low (opt f p) outer o hs k =
-        optional-low (λ h. fits f s h) (λ hs. follows p s outer hs) (λ h l. fits-low f h l) (λ hs l. follows-low p outer o hs l) hs k
-    follows-low (many f p) outer o hs k =
-        repeated-low (λ h. fits f s h) (λ hs. follows p s outer hs) (λ h l. fits-low f h l) (λ hs l. follows-low p outer o hs l) hs k
+    follows-start : (p : Slots) → fieldsHeld p ≡ true → (place : ℕ) → ElementStart s place → (hs : List Head) → SideElements hs
+        → StartVerdict (follows p s place hs)
+    follows-start done c place o hs k = ended-start hs k
+    follows-start (one f p) c place o hs k =
+        required-start (λ h. fits f s h) (λ hs. follows p s place hs) (λ h l. fits-start f (and-l (listsHeld f) (fieldsHeld p) c) h l)
+        (λ hs l. follows-start p (and-r (listsHeld f) (fieldsHeld p) c) place o hs l) place o hs k
+    follows-start (opt f p) c place o hs k =
+        optional-start (λ h. fits f s h) (λ hs. follows p s place hs) (λ h l. fits-start f (and-l (listsHeld f) (fieldsHeld p) c) h l)
+        (λ hs l. follows-start p (and-r (listsHeld f) (fieldsHeld p) c) place o hs l) hs k
+    follows-start (many f p) c place o hs k =
+        repeated-start (λ h. fits f s h) (λ hs. follows p s place hs) (λ h l. fits-start f (and-l (listsHeld f) (fieldsHeld p) c) h l)
+        (λ hs l. follows-start p (and-r (listsHeld f) (fieldsHeld p) c) place o hs l) hs k
 
-pub departure-inside : (s : List ℕ) → 0 < length s → verdictPlace (certificateVerdict s) < length s
-unfolding certificateVerdict
-departure-inside s l =
-    let low = children-low s (length s) l 0 (length s) (omega arith) (le-refl (length s)) in
-    follows-low s (length s) l (one certificate done) 0 l (childrenOf s 0 (length s)) low .below
+  -- one element that fills the octets is the only one in their list
+  outermost-alone : 0 < length s → headOf s 0 (length s) .end ≡ length s → SideElements (childrenOf s 0 (length s))
+  outermost-alone l e h i =
+      let none-left = children-done s (length s) (length s) (le-refl (length s)) in
+      let one : childrenOf s 0 (length s) ≡ headOf s 0 (length s) ∷ [] = cc (children-next s 0 (length s) l, none-left, e) in
+      outer (List·Memᴰ·eq-of-singleton (rw one at i))
+
+  pub departure-start : 0 < length s → headOf s 0 (length s) .end ≡ length s → ElementStart s (verdictPlace (certificateVerdict s))
+  unfolding certificateVerdict
+  departure-start l e =
+      follows-start (one certificate done) certificate-held 0 (outermost-start s) (childrenOf s 0 (length s)) (outermost-alone l e) .start

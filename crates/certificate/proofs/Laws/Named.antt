@@ -32,14 +32,14 @@ use Rattle.asn.specs.Grammar.Form.{none, alt}
 use Rattle.asn.specs.Fields.{Optional, Outermost, TbsFields}
 use Rattle.asn.specs.Fields.Optional.{absent, present}
 use Rattle.asn.specs.declared.fitting.Verdict.the-variants.{Stranger, Fits, Wrong}
-use Rattle.asn.proofs.Laws.Fields.{parts-fit, one-fits, done-fits, certificate-fields, tbs-fields}
+use Rattle.asn.proofs.Laws.Fields.{takes-tag, parts-fit, one-fits, done-fits, certificate-fields, tbs-fields}
 use Rattle.der.specs.Members.{firstIn, after, past, insideTag}
 
 -- ---- identifiers
 
 pub fit-tag : (i : ℕ) (x : Inside) (s : List ℕ) (h : Head) → eqb i 0 ≡ false → fits (alt i x none) s h ≡ Fits → h .tag ≡ i
 unfolding fits
-fit-tag i x s h z e = sym (eqb-true i (h .tag) (rw z at (go (takes i (h .tag)) e)))
+fit-tag i x s h z e = takes-tag i (h .tag) z (go (takes i (h .tag)) e)
   where
     go : (b : Bool) → cond b (holds x s h) Stranger ≡ Fits → b ≡ true
     go true e = refl

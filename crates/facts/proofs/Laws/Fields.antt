@@ -9,8 +9,9 @@ use mathlib.Core.List.List·Memᴰ.{List·Memᴰ·tail as behind}
 use Prim.Native.Nat.{ℕ}
 use lib.ListN.{length}
 use Rattle.facts.specs.Elements.{Element, AllElements}
-use Rattle.facts.specs.Elements.Element.{outermost}
+use Rattle.facts.specs.Elements.Topmost.{outermost}
 use Rattle.der.specs.Header.{childrenOf}
+use Rattle.der.specs.Elements.HeldFrom.{outer}
 use Rattle.der.specs.declared.header.Head.{Head}
 use Rattle.asn.specs.Grammar.{fits}
 use Rattle.asn.specs.Grammar.Slots.{done}
@@ -57,7 +58,7 @@ module _ (s : List ℕ) (e : certificateVerdict s ≡ Fits) where
       rw (← same) (a .fit)
 
   whole-element : Element s whole
-  whole-element = same-element (sym (children-first s 0 (length s) _ _ (named s e .outermost .is) .is)) outermost
+  whole-element = same-element (sym (children-first s 0 (length s) _ _ (named s e .outermost .is) .is)) (outer outermost)
 
   in-whole : AllMembers s whole
   unfolding certificate

@@ -11,10 +11,11 @@ use lib.Dec.{leb}
 use lib.ListN.{length}
 use borrow.Author.Tests.{leb-true, leb-false}
 use Rattle.facts.specs.Elements.{Element, bitsStart}
-use Rattle.facts.specs.Elements.Element.{outermost, held, in-value, in-bits}
+use Rattle.facts.specs.Elements.Topmost.{outermost, in-value, in-bits}
 use Rattle.der.specs.Header.{headOf, childrenOf}
 use Rattle.der.specs.Contents.{constructed}
 use Rattle.der.specs.Elements.{heldBy}
+use Rattle.der.specs.Elements.HeldFrom.{outer, held}
 use Rattle.der.proofs.Laws.Header.{head-narrow}
 use Rattle.der.specs.declared.header.Head.{Head}
 use Rattle.certificate.specs.Fields.{certificateOf}
@@ -51,12 +52,12 @@ module _ (s : List ℕ) where
       go false m = absurd (List·Memᴰ·not-nil m)
 
   pub element-inside : {h : Head} → Element s h → LiesIn s h
-  element-inside outermost = between-head s 0 (length s) (omega arith)
+  element-inside (outer outermost) = between-head s 0 (length s) (omega arith)
   element-inside (held {holder = holder} {h = h} k m) = held-inside holder h (element-inside k) m
-  element-inside (in-value {x = x} {v = v} m e f) =
+  element-inside (outer (in-value {x = x} {v = v} m e f)) =
       let i = value-part-inside s x (all-in (members-inside s (certificateOf s .extensions) (certificate-inside s .extensions)) m) in
       let j : LiesIn s v = subst (LiesIn s) (sym e) i in
       at-start (v .body) v j (j .forward)
-  element-inside (in-bits {b = b} r f t) =
+  element-inside (outer (in-bits {b = b} r f t)) =
       let j : LiesIn s b = subst (LiesIn s) (sym (r .is)) (key-inside s (certificateOf s .key) (certificate-inside s .key) .bits) in
       at-start (bitsStart b) b j (bits-start b t)

@@ -13,7 +13,6 @@ use Prim.Native.Nat.{ℕ}
 use native.Mathlib.Omega.{arith}
 use lib.Dec.{eqb}
 use Rattle.facts.specs.Elements.{Element, AllElements}
-use Rattle.facts.specs.Elements.Element.{held}
 use Rattle.der.specs.Contents.{constructed}
 use Rattle.der.specs.declared.header.Head.{Head}
 use Rattle.asn.specs.Grammar.{Form, Inside, unlessWrong, fits, follows}
@@ -25,6 +24,7 @@ use Rattle.asn.specs.declared.fitting.Verdict.the-variants.{Stranger, Fits, Wro
 use Rattle.asn.proofs.Laws.Fields.{parts-fit, one-fits}
 use Rattle.certificate.proofs.Laws.Named.{fit-tag}
 use Rattle.der.specs.Members.{membersIn}
+use Rattle.der.proofs.Laws.Places.{held-members}
 use Rattle.report.specs.Order.{In}
 
 -- ---- the same under another name
@@ -44,7 +44,7 @@ abbrev pub AllMembers : List ℕ → Head → Type 0
 AllMembers s holder = AllElements s (membersIn s holder)
 
 pub members-by : (s : List ℕ) (holder : Head) → constructed (holder .tag) ≡ true → Element s holder → AllMembers s holder
-members-by s holder c k h i = held {holder = holder} {h = h} k (rw c i)
+members-by s holder c k = held-members holder c k
 
 module _ (i : ℕ) (x : Inside) (s : List ℕ) (holder : Head) where
   pub members-of : constructed i ≡ true → eqb i 0 ≡ false → fits (alt i x none) s holder ≡ Fits → Element s holder → AllMembers s holder

@@ -13,9 +13,10 @@ use lib.ListN.{getD}
 use native.Mathlib.Nat.{le-refl}
 use Rattle.facts.specs.Case.{caseIn, extension}
 use Rattle.facts.specs.Elements.{extensionsOf, Element, AllElements}
-use Rattle.facts.specs.Elements.Element.{in-value}
+use Rattle.facts.specs.Elements.Topmost.{in-value}
 use Rattle.der.specs.Contents.{constructed}
 use Rattle.der.specs.Elements.{isEmpty}
+use Rattle.der.specs.Elements.HeldFrom.{outer}
 use Rattle.der.specs.Members.{missing, membersIn}
 use Rattle.der.specs.declared.header.Head.{Head}
 use Rattle.der.proofs.Laws.Children.{children-done}
@@ -133,7 +134,7 @@ module _ (s : List ℕ) (e : certificateVerdict s ≡ Fits) where
         let n = slot-good s list k _ l g in
         record {
           there = extension-ok (n .there);
-          element = same-element (sym (children-first s _ _ _ _ (n .alone) .is)) (in-value (n .named .among) (n .named .holder-is) (n .filled));
+          element = same-element (sym (children-first s _ _ _ _ (n .alone) .is)) (outer (in-value (n .named .among) (n .named .holder-is) (n .filled)));
           fit = n .element-fits;
         }
 

@@ -1,5 +1,5 @@
 -- Bounds of what an answer says.
---     refusal-inside        "a refusal's place is a start within its side"
+--     refusal-inside        "a refusal's place is a start within its side", that of an element
 --     refusal-low           so it is below 8,192
 --     inadmissible-nowhere  the place of refusals 1, 2 and 3 is 0
 --     count-fits            as many findings as are counted have room
@@ -15,7 +15,7 @@ use borrow.Author.Tests.{leb-true}
 use Rattle.lint.specs.Refusals.{inadmissibleValues, refusalValues}
 use Rattle.lint.specs.Judging.{bySoundness, sideJudgement, orElse, bothSides, admissionOf, onceAdmitted, judgementOf}
 use Rattle.lint.specs.Answers.{answerTo, answerBy, answerOf}
-use Rattle.lint.specs.Statements.{sideOctets, WithinSide}
+use Rattle.lint.specs.Statements.{sideOctets, StartWithin, WithinSide}
 use Rattle.lint.specs.declared.reasons.Side.{Side}
 use Rattle.lint.specs.declared.reasons.Side.the-variants.{Certificate, Issuer}
 use Rattle.lint.specs.declared.reasons.Inadmissible.{Inadmissible}
@@ -28,11 +28,13 @@ use Rattle.lint.specs.declared.linting.Answer.the-variants.{Report, Refu
 use Rattle.der.specs.Soundness.{derSoundness, soundnessPlace}
 use Rattle.der.specs.declared.walk.Soundness.{Soundness}
 use Rattle.der.specs.declared.walk.Soundness.the-variants.{Sound, Unsound, Unordered}
-use Rattle.der.proofs.Laws.Places.{fault-inside}
+use Rattle.der.specs.Elements.{ElementStart}
+use Rattle.der.proofs.Laws.Places.{start-inside, fault-start}
+use Rattle.der.proofs.Laws.Walks.{sound-stretch}
 use Rattle.asn.specs.Answers.{certificateVerdict, verdictPlace}
 use Rattle.asn.specs.declared.fitting.Verdict.{Verdict}
 use Rattle.asn.specs.declared.fitting.Verdict.the-variants.{Stranger, Fits, Wrong}
-use Rattle.asn.proofs.Laws.Places.{departure-inside}
+use Rattle.asn.proofs.Laws.Places.{departure-start}
 use Rattle.profiles.specs.declared.fields.Profile.{Profile}
 use Rattle.report.specs.Entries.{width}
 use Rattle.report.specs.Answers.{enoughRoom}
@@ -61,22 +63,30 @@ module _ (certificate issuer : List ℕ) where
   PlacedBy (Judgements.Refused r) = Placed r
   PlacedBy (Judgements.Accepted p) = Unit {0}
 
-  -- 4, 5 and 6
-  side-placed : (p : Profile) (side : Side) → 1 ≤ length (sideOctets certificate issuer side)
-      → length (sideOctets certificate issuer side) ≤ 8192 → PlacedBy (sideJudgement p side (sideOctets certificate issuer side))
-  unfolding sideJudgement
-  side-placed p side l m =
-      go (derSoundness (sideOctets certificate issuer side)) (certificateVerdict (sideOctets certificate issuer side))
-      (fault-inside (sideOctets certificate issuer side) 0 (length (sideOctets certificate issuer side)) l)
-      (departure-inside (sideOctets certificate issuer side) l)
-    where
-      go : (d : Soundness) (v : Verdict) → soundnessPlace d < length (sideOctets certificate issuer side)
-          → verdictPlace v < length (sideOctets certificate issuer side) → PlacedBy (bySoundness p side d v)
-      go Sound Fits f g = tt
-      go Sound (Wrong place) f g = record { within = g; low = lt-of-lt-of-le g m }
-      go Sound Stranger f g = record { within = g; low = lt-of-lt-of-le g m }
-      go (Unsound place) v f g = record { within = f; low = lt-of-lt-of-le f m }
-      go (Unordered place) v f g = record { within = f; low = lt-of-lt-of-le f m }
+  -- 4, 5 and 6: the outermost element of sound octets fills them
+  module _ (p : Profile) (side : Side) (l : 1 ≤ length (sideOctets certificate issuer side)) (m : length (sideOctets certificate issuer side) ≤ 8192) where
+    abbrev octets : List ℕ
+    octets = sideOctets certificate issuer side
+
+    starting : {place : ℕ} → ElementStart octets place → StartWithin octets place
+    starting k = record { starts = k; inside = start-inside octets l k }
+
+    low : {place : ℕ} → StartWithin octets place → place < 8192
+    low k = lt-of-lt-of-le (k .inside) m
+
+    side-placed : PlacedBy (sideJudgement p side octets)
+    unfolding sideJudgement
+    side-placed =
+        go (derSoundness octets) (certificateVerdict octets) (starting (fault-start octets))
+        (λ e. starting (departure-start octets l (sound-stretch octets 0 (length octets) e .0))) refl
+      where
+        go : (d : Soundness) (v : Verdict) → StartWithin octets (soundnessPlace d) → (derSoundness octets ≡ Sound → StartWithin octets (verdictPlace v))
+            → derSoundness octets ≡ d → PlacedBy (bySoundness p side d v)
+        go Sound Fits f g e = tt
+        go Sound (Wrong place) f g e = record { within = g e; low = low (g e) }
+        go Sound Stranger f g e = record { within = g e; low = low (g e) }
+        go (Unsound place) v f g e = record { within = f; low = low f }
+        go (Unordered place) v f g e = record { within = f; low = low f }
 
   first-placed : (a b : Judgement) → PlacedBy a → PlacedBy b → PlacedBy (orElse a b)
   first-placed (Judgements.Refused r) b k l = k

@@ -9,11 +9,12 @@ use Prim.Native.Nat.{ℕ, _-_}
 use lib.Dec.{leb}
 use lib.ListN.{length}
 use Rattle.facts.specs.Elements.{Element}
-use Rattle.facts.specs.Elements.Element.{outermost, held, in-value, in-bits}
+use Rattle.facts.specs.Elements.Topmost.{outermost, in-value, in-bits}
 use Rattle.places.specs.Statement.{SoundElement}
 use Rattle.octets.proofs.Laws.Tests.{and-l}
 use Rattle.der.specs.Contents.{constructed, universalOk, contentsOf, elementOk}
 use Rattle.der.specs.Elements.{heldBy, joined, elementsOf}
+use Rattle.der.specs.Elements.HeldFrom.{outer, held}
 use Rattle.der.specs.Soundness.{soundness, derSoundness}
 use Rattle.der.specs.declared.header.Head.{Head}
 use Rattle.der.specs.declared.walk.Soundness.the-variants.{Sound}
@@ -42,10 +43,10 @@ held-whole s holder w h = go (constructed (holder .tag)) refl
 
 module _ (s : List ℕ) (e : derSoundness s ≡ Sound) where
   whole : {h : Head} → Element s h → Whole s h
-  whole outermost = record { levels = 16; is = sound-stretch s 0 (length s) e .1 }
+  whole (outer outermost) = record { levels = 16; is = sound-stretch s 0 (length s) e .1 }
   whole (held {holder} {h} k i) = held-whole s holder (whole k) h i
-  whole (in-value i v f) = record { levels = 16; is = sound-stretch s _ _ f .1 }
-  whole (in-bits b f tag) = record { levels = 16; is = sound-stretch s _ _ f .1 }
+  whole (outer (in-value i v f)) = record { levels = 16; is = sound-stretch s _ _ f .1 }
+  whole (outer (in-bits b f tag)) = record { levels = 16; is = sound-stretch s _ _ f .1 }
 
   pub element-sound : (h : Head) → Element s h → SoundElement s h
   unfolding elementOk

@@ -17,6 +17,7 @@ use Rattle.octets.specs.Octets.{octetAt}
 use Rattle.octets.proofs.Laws.Tests.{and-l, and-r}
 use Rattle.der.specs.Header.{headOf, childrenOf}
 use Rattle.der.specs.Contents.{constructed}
+use Rattle.der.specs.Elements.HeldFrom.{outer}
 use Rattle.der.specs.Soundness.{stretchSoundness, isSound}
 use Rattle.der.specs.declared.header.Head.{Head}
 use Rattle.der.specs.declared.walk.Soundness.{Soundness}
@@ -30,11 +31,10 @@ use Rattle.profiles.specs.declared.fields.Profile.{Profile}
 use Rattle.certificate.specs.Issuer.{Known}
 use Rattle.facts.specs.Case.{caseIn}
 use Rattle.facts.specs.Elements.{Fills, subjectKey, bitsStart, RsaBits, Element, AllElements}
-use Rattle.facts.specs.Elements.Element.{in-bits}
+use Rattle.facts.specs.Elements.Topmost.{in-bits}
 use Rattle.facts.specs.Kinds.{isRsa}
 use Rattle.facts.proofs.Laws.Key.{algorithm-element, bits-element}
 use Rattle.facts.proofs.Laws.Members.{here, among, same-element, members-by}
-use Rattle.report.specs.Order.{In}
 use Rattle.report.specs.Rows.{_for_⦂_, brokenAt, RowOk, RowsOk}
 use Rattle.report.specs.Rows.RowsOk.{no-rows, more-rows}
 use Rattle.report.proofs.Laws.Rows.{at-ok}
@@ -93,7 +93,7 @@ module _ (s : List ℕ) (e : certificateVerdict s ≡ Fits) where
       let string : RsaBits s bits = record { rsa = and-l (isRsa (subjectKey s .kind)) (rsaBits s bits) t; is = refl; unused = b .unused } in
       let whole : sequenceIn s bits ≡ headOf s (bitsStart bits) (bits .end) = ap (λ (n : ℕ). headOf s n (bits .end)) (b .from) in
       let tag : sequenceIn s bits .tag ≡ 0x30 = ap (λ (x : Head). x .tag) whole ∙ b .tag in
-      let sequence = same-element whole (in-bits string (b .sound) (b .tag)) in
+      let sequence = same-element whole (outer (in-bits string (b .sound) (b .tag))) in
       members-by s (sequenceIn s bits) (ap constructed tag) sequence h (among (rsa-members s bits kept) i)
 
   module _ (t : judgesNumbers s (subjectKey s) ≡ true) where
