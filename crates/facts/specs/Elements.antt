@@ -51,7 +51,3 @@ pub data Element (s : List ℕ) : Head → Type 0 where
   -- the bits b are "exactly a sound SEQUENCE"
   in-bits : {b : Head} → RsaBits s b → Fills s (bitsStart b) (b .end) → headOf s (bitsStart b) (b .end) .tag ≡ 0x30
       → Element s (headOf s (bitsStart b) (b .end))
-
--- every element of a list
-abbrev pub AllElements : List ℕ → List Head → Type 0
-AllElements s hs = (h : Head) → In h hs → Element s h

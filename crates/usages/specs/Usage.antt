@@ -23,10 +23,6 @@ unfoldable pub anyBelow : (ℕ → Bool) → ℕ → Bool
 anyBelow test zero = false
 anyBelow test (suc n) = test n || anyBelow test n
 
--- whether any bit is set
-unfoldable pub anySet : List ℕ → Bool
-anySet bits = anyBelow (bitAt bits) (8 * length bits)
-
 abbrev pub usageOf : List ℕ → Head → List ℕ
 usageOf s v = bitOctets (contentsOf s v)
 
@@ -40,10 +36,6 @@ mayBeSet allowed k = eqb k digitalSignature || bitAt (allowed ∷ []) k
 
 abbrev pub otherBit : List ℕ → ℕ → ℕ → Bool
 otherBit bits allowed k = not (mayBeSet allowed k) && bitAt bits k
-
--- the last bit of a is set, and that of b is not
-abbrev pub oddAlone : ℕ → ℕ → Bool
-oddAlone a b = not (eqb (b % 2) 1) && eqb (a % 2) 1
 
 -- Some bit is set that may not be: 405 "no bit besides: keyEncipherment with RSA, keyAgreement with EC (S); none (O or another key)" is broken.
 unfoldable pub otherBits : List ℕ → ℕ → Bool

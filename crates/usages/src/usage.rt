@@ -5,7 +5,8 @@ ghost use mathlib.Core.Path.{_≡_};
 ghost use mathlib.Core.List.{[], _∷_};
 ghost use Prim.Native.Nat.{_+_, _-_};
 ghost use Rattle.octets.specs.Octets.{octetsFrom};
-ghost use Rattle.usages.specs.Usage.{bitOctets, bitAt, anyBelow, anySet, usageOf, digitalSignature, otherBit, oddAlone, otherBits};
+ghost use Rattle.usages.specs.Usage.{bitOctets, bitAt, anyBelow, usageOf, digitalSignature, otherBit, otherBits};
+ghost use Rattle.usages.specs.Workings.Usage.{anySet, oddAlone};
 
 // Rule 404: whether digitalSignature is set.
 pub fn signs(s: &[u8], v: Head) -> bool

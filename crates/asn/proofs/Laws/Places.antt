@@ -17,8 +17,8 @@ use Rattle.asn.specs.declared.fitting.Verdict.{Verdict}
 use Rattle.asn.specs.declared.fitting.Verdict.the-variants.{Stranger, Fits, Wrong}
 use Rattle.der.specs.Contents.{contentsOf}
 use Rattle.der.specs.Header.{childrenOf}
-use Rattle.der.specs.Walking.{Chain}
-use Rattle.der.specs.Walking.Chain.{done as no-more, next}
+use Rattle.der.proofs.Terms.Walking.{Chain}
+use Rattle.der.proofs.Terms.Walking.Chain.{done as no-more, next}
 use Rattle.der.specs.declared.header.Head.{Head}
 use Rattle.der.proofs.Laws.Header.{head-start, head-forward, head-body}
 use Rattle.der.proofs.Laws.Walking.{children-chain}

@@ -11,8 +11,8 @@ use Rattle.der.specs.Header.{headOf}
 use Rattle.der.specs.Elements.{Node, elementsOf}
 use Rattle.der.specs.Soundness.{faulty, unordered, FirstPlace, first, judge, soundness, stretchSoundness, soundnessPlace}
 use Rattle.der.specs.Soundness.FirstPlace.{nothing, found}
-use Rattle.der.specs.Walking.{Rising, startOf}
-use Rattle.der.specs.Walking.Rising.{more}
+use Rattle.der.proofs.Terms.Walking.{Rising, startOf}
+use Rattle.der.proofs.Terms.Walking.Rising.{more}
 use Rattle.der.specs.declared.walk.Soundness.the-variants.{Unsound}
 use Rattle.der.proofs.Laws.Header.{head-forward}
 use Rattle.der.proofs.Laws.Walking.{elements-rise}

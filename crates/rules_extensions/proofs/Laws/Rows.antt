@@ -24,8 +24,9 @@ use Rattle.facts.specs.Case.{caseIn, slot}
 use Rattle.facts.specs.Elements.{Element}
 use Rattle.facts.proofs.Laws.Slots.{in-list, list-place, place-element, holder-element}
 use Rattle.report.specs.Forms.{filter}
-use Rattle.report.specs.Rows.{_⦂_, RowOk, RowsOk}
-use Rattle.report.specs.Rows.RowsOk.{no-rows, more-rows}
+use Rattle.report.specs.Rows.{_⦂_}
+use Rattle.report.proofs.Terms.Rows.{RowOk, RowsOk}
+use Rattle.report.proofs.Terms.Rows.RowsOk.{no-rows, more-rows}
 use Rattle.report.proofs.Laws.Order.{children-apart}
 use Rattle.report.proofs.Laws.Rows.{at-ok, each-ok, ok-join}
 use Rattle.rules_extensions.proofs.Laws.Slots.{rowsFrom, slots-ok}

@@ -29,17 +29,18 @@ use Rattle.certificate.specs.declared.key.KeyKind.{KeyKind}
 use Rattle.certificate.specs.declared.slots.Slot.{Slot}
 use Rattle.certificate.specs.Issuer.{KeyIdentifier, Known}
 use Rattle.facts.specs.Case.{caseIn}
-use Rattle.facts.specs.Elements.{Element, AllElements}
-use Rattle.facts.proofs.Laws.Members.{AllMembers, members-of, listed-fit}
+use Rattle.facts.specs.Elements.{Element}
+use Rattle.facts.proofs.Laws.Members.{AllElements, AllMembers, members-of, listed-fit}
 use Rattle.facts.proofs.Laws.Slots.{good-slot}
 use Rattle.forms.specs.Lists.{itemsWithin}
 use Rattle.forms.specs.Values.{whereGood}
 use Rattle.forms.specs.declared.nests.Nest.the-variants.{Policy}
 use Rattle.forms.proofs.Laws.Lists.{items-in}
 use Rattle.report.specs.Forms.{filter}
-use Rattle.report.specs.Rows.{_⦂_, brokenAt, RowOk, RowsOk}
-use Rattle.report.specs.Rows.Up.{no-heads}
-use Rattle.report.specs.Rows.RowsOk.{no-rows, more-rows}
+use Rattle.report.specs.Rows.{_⦂_, brokenAt}
+use Rattle.report.proofs.Terms.Rows.{RowOk, RowsOk}
+use Rattle.report.proofs.Terms.Rows.Up.{no-heads}
+use Rattle.report.proofs.Terms.Rows.RowsOk.{no-rows, more-rows}
 use Rattle.report.proofs.Laws.Order.{children-apart}
 use Rattle.report.proofs.Laws.Rows.{at-ok, each-ok, ok-join}
 use Rattle.rules_values.proofs.Laws.Qualifiers.{qualifiers-of, qualifiers-apart}

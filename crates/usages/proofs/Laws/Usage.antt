@@ -14,7 +14,8 @@ use native.Mathlib.Omega.{arith}
 use lib.ListN.{length}
 use lib.Dec.{ltb, eqb}
 use borrow.Author.Tests.{lt-ltb, ne-eqb}
-use Rattle.usages.specs.Usage.{bitOctets, bitAt, anyBelow, anySet, otherBit, oddAlone, otherBits}
+use Rattle.usages.specs.Usage.{bitOctets, bitAt, anyBelow, otherBit, otherBits}
+use Rattle.usages.specs.Workings.Usage.{anySet, oddAlone}
 use Rattle.octets.specs.Octets.{octetAt, octetsFrom}
 use Rattle.octets.proofs.Laws.Finite.{allBelow, all-below, same, same-true}
 use Rattle.octets.proofs.Laws.Octets.{octets-done, octets-next}
