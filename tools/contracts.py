@@ -16,7 +16,8 @@ Made by `tools/contracts.py` from `crates/*/src` and, for the words, from `tools
 
 What every public function of every crate ensures, bottom up. None has a `requires`. `now (s .entry)` is what the lent `s` holds when the
 function is called, `now (s .exit)` when it returns. The names in a contract are definitions of `specs/`, of the crate itself or of one below it;
-each name is defined in one crate only. "In words" says what contracts say together, which laws of `proofs/Laws` go with them, and which wrong
+each name is defined in one crate only. Functions that are `pub` for the other files of their crate alone are listed too; only their contracts
+may name definitions of `specs/Workings`. "In words" says what contracts say together, which laws of `proofs/Laws` go with them, and which wrong
 answers the kept edits stand for ([EDITS.md](EDITS.md) has each of them as it is made). Files are given from the crate's folder on.
 """
 

@@ -2,7 +2,7 @@
 """Writes crates/asn/src/table.rt and crates/asn/proofs/Laws/Tables.antt.
 
 The grammar stands here once more, in the shape of specs/Module.antt, and nothing rests on it: the proofs compare the rows with
-specs/Table.antt, by computation. To add a type: define it in specs/Module.antt, append it to `types` of specs/Table.antt (and
+specs/Workings/Table.antt, by computation. To add a type: define it in specs/Module.antt, append it to `types` of specs/Workings/Table.antt (and
 to `judged` of specs/Module.antt, if a rule asks for it), do the same here, run this, and `rt check asn`."""
 import os
 
@@ -96,7 +96,7 @@ def const(name, xs):
     return 'pub const %s: [u16; %d] = [\n' % (name, len(xs)) + ''.join('    0x%04X,\n' % x for x in xs) + '];\n'
 
 
-open(ROOT + '/src/table.rt', 'w').write('''// RFC 5280's types as tables of rows, written by tools/grammar_table.py. The proofs compare them with specs/Table.antt.
+open(ROOT + '/src/table.rt', 'w').write('''// RFC 5280's types as tables of rows, written by tools/grammar_table.py. The proofs compare them with specs/Workings/Table.antt.
 
 // A row for each alternative of each type: 256 times its identifier octet, 0 for any, and what is inside: the number
 // of a test, or as much more than the row of its first field as there are tests, with 128 for a SET. 0 ends the type.
@@ -145,14 +145,14 @@ def unfolding(names):
     return wrapped(names, 'unfolding ', ' ', '', '    ')
 
 
-open(ROOT + '/proofs/Laws/Tables.antt', 'w').write('''-- The rows of src/table.rt say what specs/Table.antt has: antt reads the whole tables. Written by tools/grammar_table.py.
+open(ROOT + '/proofs/Laws/Tables.antt', 'w').write('''-- The rows of src/table.rt say what specs/Workings/Table.antt has: antt reads the whole tables. Written by tools/grammar_table.py.
 --     tables-right, roots-right      the rows of the types and of their fields; the rows where the judged types begin
 -- Assumes nothing.
 use mathlib.Core.Path.{_≡_, refl}
 use mathlib.Core.List.{List, [], _∷_, map}
 use Prim.Native.Nat.{ℕ}
 use Rattle.asn.specs.Grammar.{Form, Slots}
-''' + using('Module', ['judged'] + NAMES) + '''use Rattle.asn.specs.Table.{Tables, types, alone, allForms, slotRows, formOf, fieldsOf, rowsSay, formAt, slotsAt}
+''' + using('Module', ['judged'] + NAMES) + '''use Rattle.asn.specs.Workings.Table.{Tables, types, alone, allForms, slotRows, formOf, fieldsOf, rowsSay, formAt, slotsAt}
 
 ''' + antt('rows', ROWS) + '\n' + antt('slots', FIELDS) + '\n' + antt('roots', ROOTS) + '''
 forms-right : rowsSay formOf Form.none rows ≡ allForms types

@@ -24,6 +24,7 @@
 //! | `outcome`, `queue` | what the proved linter, writer and reader write, and requests that wait for them |
 //! | `calls` | calls of the linter, the proved one held to the whole answer that is due |
 //! | `linters`, `writers`, `readers`, `listers` | the reference and the proved one, both held to what is due |
+//! | `sources` | the sources of the proved crates as text: functions with what they ensure, and definitions |
 //! | `random`, `amount`, `hex` | small helpers |
 //!
 //! `cargo test -- --nocapture` shows how many cases of each kind were compared and the table of
@@ -65,6 +66,7 @@ pub mod readers;
 pub mod records;
 pub mod sample;
 pub mod shrink;
+pub mod sources;
 pub mod times;
 pub mod trees;
 pub mod variations;

@@ -2,64 +2,30 @@
 //! name of a public function, type or constant in the code of two.
 
 use std::collections::{BTreeMap, BTreeSet};
-use std::fs;
-use std::path::{Path, PathBuf};
+
+use comparison::sources::{self, name_after, text_of};
 
 /// The crates that define each name.
 type Owners = BTreeMap<String, BTreeSet<String>>;
 
-fn entries_of(folder: &Path) -> Vec<PathBuf> {
-    let entries = fs::read_dir(folder).unwrap_or_else(|e| panic!("{}: {e}", folder.display()));
-    let mut paths: Vec<PathBuf> = entries.map(|entry| entry.expect("a folder's entry").path()).collect();
-    paths.sort();
-    paths
-}
-
-fn crates() -> Vec<PathBuf> {
-    entries_of(&Path::new(env!("CARGO_MANIFEST_DIR")).parent().expect("a repository").join("crates"))
-}
-
-/// The name that the text begins with, after these words, of which some may be missing.
-fn name_after<'a>(words: &[&str], text: &'a str) -> &'a str {
-    let rest = words.iter().fold(text, |rest, word| rest.strip_prefix(word).unwrap_or(rest));
-    rest.split(|c: char| c.is_whitespace() || ":({".contains(c)).next().unwrap_or("")
-}
-
-/// The public definitions of a specification: `pub`, `abbrev pub`, `unfoldable pub`, of a record and of a type too. They
-/// start their line; in a `mutual` group they stand two blanks to the right, as a record's fields do elsewhere.
-fn definitions_in(text: &str) -> Vec<&str> {
-    let mut names = Vec::new();
-    let mut is_mutual = false;
-    for line in text.lines() {
-        if line.starts_with(|c: char| !c.is_whitespace()) && !line.starts_with("--") {
-            is_mutual = line.ends_with("mutual");
-        }
-        let line = line.strip_prefix("  ").filter(|_| is_mutual).unwrap_or(line);
-        let line = ["abbrev ", "unfoldable "].iter().find_map(|word| line.strip_prefix(word)).unwrap_or(line);
-        if let Some(definition) = line.strip_prefix("pub ").filter(|rest| !rest.starts_with("mod ")) {
-            names.push(name_after(&["record ", "data "], definition));
-        }
-    }
-    names
+fn definitions_in(text: &str) -> Vec<String> {
+    sources::definitions_in(text).into_iter().map(|definition| definition.name).collect()
 }
 
 /// The public functions, types and constants of a source.
-fn code_in(text: &str) -> Vec<&str> {
+fn code_in(text: &str) -> Vec<String> {
     let kinds = ["pub fn ", "pub struct ", "pub enum ", "pub const "];
     let named = |line| kinds.iter().find_map(|kind| str::strip_prefix(line, kind));
-    text.lines().filter_map(named).map(|rest| name_after(&[], rest)).collect()
+    text.lines().filter_map(named).map(|rest| name_after(&[], rest).to_string()).collect()
 }
 
-/// Which crates define which name, in the files of this folder of each.
-fn owners(folder: &str, extension: &str, names_in: fn(&str) -> Vec<&str>) -> Owners {
+/// Which crates define which name, in the files below this folder of each.
+fn owners(folder: &str, extension: &str, names_in: fn(&str) -> Vec<String>) -> Owners {
     let mut owners = Owners::new();
-    for path in crates().iter().filter(|path| path.join(folder).is_dir()) {
-        let owner = path.file_name().expect("a crate has a name").to_string_lossy();
-        let files = entries_of(&path.join(folder));
-        for file in files.iter().filter(|file| file.extension().is_some_and(|e| e == extension)) {
-            let text = fs::read_to_string(file).unwrap_or_else(|e| panic!("{}: {e}", file.display()));
-            for name in names_in(&text) {
-                owners.entry(name.to_string()).or_default().insert(owner.to_string());
+    for path in sources::crates() {
+        for file in sources::files_below(&path.join(folder), extension) {
+            for name in names_in(&text_of(&file)) {
+                owners.entry(name).or_default().insert(sources::crate_name(&path));
             }
         }
     }

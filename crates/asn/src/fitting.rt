@@ -13,10 +13,10 @@ ghost use lib.Dec.{eqb, ltb};
 ghost use Rattle.octets.specs.Numbers.{largest};
 ghost use Rattle.der.specs.Header.{childrenOf};
 ghost use Rattle.asn.specs.Grammar.{Form, Slots, setInOrder, takes, follows, isFits};
-ghost use Rattle.asn.specs.Choosing.{alternativeFor, fieldFor, mayStand, lacking};
+ghost use Rattle.asn.specs.Workings.Choosing.{alternativeFor, fieldFor, mayStand, lacking};
 ghost use Rattle.asn.specs.Module.{valueOf};
 ghost use Rattle.asn.specs.Answers.{onlyElement, certificateVerdict, valueOk};
-ghost use Rattle.asn.specs.Table.{Tables, types, allForms, slotRows, rowsSay, formOf, formAt, fieldsOf, slotsAt, alternativeAt, fieldAt};
+ghost use Rattle.asn.specs.Workings.Table.{Tables, types, allForms, slotRows, rowsSay, formOf, formAt, fieldsOf, slotsAt, alternativeAt, fieldAt};
 
 // What becomes of an element against a type.
 pub enum Verdict {

@@ -9,7 +9,7 @@ ghost use Rattle.octets.specs.Octets.{octetAt, octetsFrom};
 ghost use Rattle.der.specs.Contents.{primitiveOk};
 ghost use Rattle.asn.specs.Grammar.{versionOk, trueOk, naturalOk, namedOk, isReal, passes};
 ghost use Rattle.times.specs.Reads.{timeOf};
-ghost use Rattle.asn.specs.Table.{testAt};
+ghost use Rattle.asn.specs.Workings.Table.{testAt};
 
 fn version_ok(s: &[u8], body: usize, n: usize) -> bool
     ensures { λ r. ⌜ r ≡ versionOk (octetsFrom (now (s .entry)) body n) ⌝ }

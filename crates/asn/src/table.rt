@@ -1,4 +1,4 @@
-// RFC 5280's types as tables of rows, written by tools/grammar_table.py. The proofs compare them with specs/Table.antt.
+// RFC 5280's types as tables of rows, written by tools/grammar_table.py. The proofs compare them with specs/Workings/Table.antt.
 
 // A row for each alternative of each type: 256 times its identifier octet, 0 for any, and what is inside: the number
 // of a test, or as much more than the row of its first field as there are tests, with 128 for a SET. 0 ends the type.

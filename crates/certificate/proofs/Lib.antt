@@ -1,2 +1,3 @@
--- Laws of the definitions, which the layers above cite.
+-- Laws of the definitions, and the terms that only laws need; the layers above cite both.
 pub mod Laws
+pub mod Terms

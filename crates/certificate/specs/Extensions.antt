@@ -67,18 +67,6 @@ slotFor identifier = positionFrom 1 identifiers identifier
 abbrev pub slotOf : List ℕ → Head → ℕ
 slotOf s h = slotFor (identifierOf s h)
 
--- the slot of 2.5.29.n, as the code finds it
-abbrev pub slotBy : ℕ → ℕ
-slotBy n =
-    cond (eqb n 35) 1
-    (cond (eqb n 19) 2
-    (cond (eqb n 14) 3
-    (cond (eqb n 15) 4
-    (cond (eqb n 37) 5
-    (cond (eqb n 32) 6
-    (cond (eqb n 17) 7
-    (cond (eqb n 31) 9 0)))))))
-
 -- "private key usage period 2.5.29.16"
 abbrev pub isPeriod : List ℕ → Head → Bool
 isPeriod s h = firstIs s h (certificateExtension 16)

@@ -1,9 +1,8 @@
--- What an accepted certificate says: its fields, its key, its extensions, and what counts of an issuer. `Inside` and `Named` are statements on them.
+-- What an accepted certificate says: its fields, its key, its extensions, and what counts of an issuer.
 pub mod Fields
 pub mod Key
 pub mod Extensions
 pub mod Slots
 pub mod Standing
 pub mod Issuer
-pub mod Inside
-pub mod Named
+pub mod Workings

@@ -4,7 +4,6 @@ use mathlib.Core.Bool.{Bool, false, not, _&&_}
 use Prim.Native.Nat.{ℕ, zero, suc, _+_}
 use lib.Dec.{eqb}
 use Rattle.certificate.specs.Extensions.{extensionOf, slotOf, seenBefore}
-use Rattle.certificate.specs.declared.slots.Firsts.{Firsts}
 use Rattle.certificate.specs.declared.slots.Slot.{Slot}
 use Rattle.certificate.specs.declared.slots.SlotTable.{SlotTable}
 use Rattle.der.specs.Elements.{anyOf, firstOf, isEmpty}
@@ -55,9 +54,6 @@ unfoldable pub readSlots : List ℕ → Head → SlotTable
 readSlots s list = record { each = slotsOf s list; repeated = hasRepeats s list }
 
 -- ---- as the code finds them: first the extensions, then what is read of each; nothing is read of none
-
-unfoldable pub firstsOf : List ℕ → Head → Firsts
-firstsOf s list = record { each = bySlot (firstInSlot s (list .end) (membersIn s list)); repeated = hasRepeats s list }
 
 abbrev pub emptySlot : Head → Slot
 emptySlot none = record { place = none; critical = false; holder = none; element = none; good = false }

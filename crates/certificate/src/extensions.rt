@@ -2,7 +2,8 @@
 use der::Head;
 ghost use mathlib.Core.Path.{_≡_};
 ghost use Rattle.octets.specs.Octets.{octetsFrom};
-ghost use Rattle.certificate.specs.Extensions.{extensionOf, slotBy, slotFor, slotOf, isPeriod, sameIdentifier, seenBefore};
+ghost use Rattle.certificate.specs.Extensions.{extensionOf, slotFor, slotOf, isPeriod, sameIdentifier, seenBefore};
+ghost use Rattle.certificate.specs.Workings.Slots.{slotBy};
 
 pub struct Extension {
     // the Extension itself

@@ -10,7 +10,8 @@ ghost use lib.Dec.{eqb};
 ghost use Rattle.der.specs.Elements.{isEmpty};
 ghost use Rattle.der.specs.Members.{membersIn};
 ghost use Rattle.certificate.specs.Extensions.{seenBefore};
-ghost use Rattle.certificate.specs.Slots.{firstInSlot, isGood, slotFrom, emptySlot, firstsOf, readSlots};
+ghost use Rattle.certificate.specs.Slots.{firstInSlot, isGood, slotFrom, emptySlot, readSlots};
+ghost use Rattle.certificate.specs.Workings.Slots.{firstsOf};
 
 // Slot 0 is for identifiers that the table does not have; it has 1 to 10.
 pub const SLOTS: usize = 11;

@@ -1,3 +1,3 @@
--- The side of a record that an argument names, and what is known of the sides that were written.
+-- The side of a record that an argument names.
 pub mod Sides
-pub mod Outcomes
+pub mod Workings

@@ -16,7 +16,7 @@ use texts::Numeral;
 ghost use mathlib.Core.Path.{_≡_};
 ghost use lib.ListN.{length};
 ghost use Rattle.retrieval.specs.Fetching.{sidesOf};
-ghost use Rattle.deckget.specs.Outcomes.{WroteAll};
+ghost use Rattle.deckget.specs.Workings.Outcomes.{WroteAll};
 
 // The program takes as much of deck as `decklint` ("It lends the linter 65,536 octets of room and takes as much of
 // deck").

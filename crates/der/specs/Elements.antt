@@ -43,10 +43,6 @@ unfoldable pub elementsOf : List ℕ → ℕ → Head → List Node
 elementsOf s zero h = record { head = h; levels = zero } ∷ []
 elementsOf s (suc levels) h = record { head = h; levels = suc levels } ∷ joined (elementsOf s levels) (heldBy s h)
 
--- the members of a list and all that they hold
-abbrev pub membersOf : List ℕ → ℕ → ℕ → ℕ → List Node
-membersOf s levels at end = joined (elementsOf s levels) (childrenOf s at end)
-
 -- at least one of the elements passes a test
 unfoldable pub anyOf : (Head → Bool) → List Head → Bool
 anyOf test [] = false

@@ -9,4 +9,4 @@ pub mod Comparing
 pub mod Arcs
 pub mod Elements
 pub mod Soundness
-pub mod Walking
+pub mod Workings

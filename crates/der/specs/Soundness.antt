@@ -5,10 +5,10 @@ use Prim.Native.Nat.{ℕ}
 use lib.ListN.{length}
 use lib.Dec.{eqb}
 use Rattle.refusals.specs.Table.{notSoundDer, setOutOfOrder}
-use Rattle.der.specs.Header.{headOf, childrenOf}
+use Rattle.der.specs.Header.{headOf}
 use Rattle.der.specs.Contents.{elementOk}
 use Rattle.der.specs.Order.{ascending, octetsOf}
-use Rattle.der.specs.Elements.{Node, heldBy, elementsOf, membersOf}
+use Rattle.der.specs.Elements.{Node, heldBy, elementsOf}
 use Rattle.der.specs.declared.header.Head.{Head}
 use Rattle.der.specs.declared.walk.Soundness.{Soundness}
 use Rattle.der.specs.declared.walk.Soundness.the-variants.{Sound, Unsound, Unordered}
@@ -63,28 +63,8 @@ soundnessPlace Sound = 0
 soundnessPlace (Unsound p) = p
 soundnessPlace (Unordered p) = p
 
--- ---- how the walk puts its answer together
-
+-- nothing is wrong
 abbrev pub isSound : Soundness → Bool
 isSound Sound = true
 isSound (Unsound p) = false
 isSound (Unordered p) = false
-
--- what two lists of elements give, one behind the other
-abbrev pub andThen : Soundness → Soundness → Soundness
-andThen Sound b = b
-andThen (Unsound p) b = Unsound p
-andThen (Unordered p) Sound = Unordered p
-andThen (Unordered p) (Unsound q) = Unsound q
-andThen (Unordered p) (Unordered q) = Unordered p
-
--- what the order of its members says of the element at place at
-abbrev pub inOrder : Bool → ℕ → Soundness
-inOrder true at = Sound
-inOrder false at = Unordered at
-
--- the list from body to end that an element at place at holds: its order, if the element is a SET, and then its members
-abbrev pub soundList : List ℕ → ℕ → ℕ → Bool → ℕ → ℕ → Soundness
-soundList s levels at set body end =
-    andThen (inOrder (not set || ascending (map (octetsOf s) (childrenOf s body end))) at)
-    (soundness s (membersOf s levels body end))

@@ -6,7 +6,8 @@ use crate::header::head_any;
 use crate::header::head_at;
 use crate::order::may_follow;
 ghost use mathlib.Core.Path.{_≡_};
-ghost use Rattle.der.specs.Soundness.{isSound, andThen, inOrder, soundness, soundList, stretchSoundness, derSoundness};
+ghost use Rattle.der.specs.Soundness.{isSound, soundness, stretchSoundness, derSoundness};
+ghost use Rattle.der.specs.Workings.Walk.{andThen, inOrder, soundList};
 ghost use Rattle.der.specs.Elements.{elementsOf};
 
 // What the walk finds. The places are starts: of the first faulty element (refusal 4); where none is faulty, of

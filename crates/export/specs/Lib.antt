@@ -1,2 +1,3 @@
 -- Answers as numbers.
 pub mod Packing
+pub mod Workings

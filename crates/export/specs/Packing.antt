@@ -1,6 +1,6 @@
 -- An answer as one number of 64 bits, for callers in other languages: a count as it is, a refusal with the paper's number, side and place.
 use mathlib.Core.Bool.{Bool, cond}
-use Prim.Native.Nat.{ℕ, _+_, _*_, _^_, _/_, _%_, _<_}
+use Prim.Native.Nat.{ℕ, _+_, _*_, _^_, _/_, _%_}
 use lib.Dec.{eqb, leb}
 use Rattle.refusals.specs.Table.{refused, unrefused}
 use Rattle.refusals.specs.declared.table.Values.{Values}
@@ -12,12 +12,6 @@ packedRefusal number side place = 2 ^ 63 + number * 2 ^ 32 + side * 2 ^ 16 + pla
 -- number 0 is no refusal
 abbrev pub packedValues : Values → ℕ
 packedValues v = cond (eqb (v .number) 0) (v .count) (packedRefusal (v .number) (v .side) (v .place))
-
--- the numbers have room
-pub record Packable (v : Values) : Type 0 where
-  pub number : v .number < 65536
-  pub side : v .side < 65536
-  pub place : v .place < 65536
 
 -- ---- as a caller takes it apart (include/dlozamife.h)
 

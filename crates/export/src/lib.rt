@@ -6,7 +6,8 @@ ghost use Rattle.lint.specs.Values.{lintValues};
 ghost use Rattle.lint.specs.Answers.{roomOf};
 ghost use Rattle.writer.specs.Values.{writeValues};
 ghost use Rattle.writer.specs.Answers.{writeRoom};
-ghost use Rattle.export.specs.Packing.{packedValues, Packable};
+ghost use Rattle.export.specs.Packing.{packedValues};
+ghost use Rattle.export.specs.Workings.Packing.{Packable};
 
 // 2^63: a count is below it.
 const REFUSED: u64 = 9223372036854775808;

@@ -53,7 +53,3 @@ pub data Topmost (s : List ℕ) : Head → Type 0 where
 -- an element of the octets s: "In a constructed one, an element holds a list of elements, each again such an element"
 abbrev pub Element : List ℕ → Head → Type 0
 Element s = HeldFrom s (Topmost s)
-
--- every element of a list
-abbrev pub AllElements : List ℕ → List Head → Type 0
-AllElements s hs = (h : Head) → In h hs → Element s h

@@ -9,7 +9,7 @@ use der::Head;
 use profiles::Profile;
 ghost use Rattle.der.specs.Header.{childrenOf};
 ghost use Rattle.report.specs.Putting.{Put};
-ghost use Rattle.report.specs.Forms.{each as eachOf, one, isBehind};
+ghost use Rattle.report.specs.Workings.Forms.{each as eachOf, one, isBehind};
 ghost use Rattle.forms.specs.Kinds.{ofKind};
 ghost use Rattle.forms.specs.Lists.{itemsWithin, attributesIn};
 

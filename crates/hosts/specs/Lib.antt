@@ -1,5 +1,4 @@
--- dNSNames and host names (document 01, "Rules on fields", 120, and "Rules on extensions", 412 to 414). `Scanning` is for the proofs alone: no contract
--- that the layers above see names it.
+-- dNSNames and host names (document 01, "Rules on fields", 120, and "Rules on extensions", 412 to 414).
 pub mod Names
 pub mod Hosts
-pub mod Scanning
+pub mod Workings

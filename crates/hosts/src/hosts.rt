@@ -9,7 +9,7 @@ ghost use lib.Dec.{leb};
 ghost use Rattle.octets.specs.Octets.{octetsFrom};
 ghost use Rattle.octets.specs.Numbers.{largest};
 ghost use Rattle.hosts.specs.Hosts.{hasOctet, hasUnderscore, labelOctet, labelsOf, labelsOk, hostOf, isPlain, noHost};
-ghost use Rattle.hosts.specs.Scanning.{mayEnd, mayGrow, mayFollow, sizeAfter};
+ghost use Rattle.hosts.specs.Workings.Scanning.{mayEnd, mayGrow, mayFollow, sizeAfter};
 
 // What a name is as a host name.
 pub enum Host {

@@ -21,11 +21,6 @@ use Rattle.lint.specs.declared.judging.Judgement.the-variants as Judgeme
 unfoldable pub answerTo : List Entry → List ℕ → Answer
 answerTo es room = cond (enoughRoom es room) (Report (length es)) (Refused NoRoom)
 
--- the answer to findings, and the room then: the findings' octets and the rest of the room, or on refusal the room as it was
-pub record Reported (es : List Entry) (room : List ℕ) (r : Answer) (last : List ℕ) : Type 0 where
-  pub told : r ≡ answerTo es room
-  pub bytes : last ≡ filled es room
-
 -- by refusals 1 to 6
 abbrev pub answerBy : Judgement → List ℕ → List ℕ → List ℕ → Answer
 answerBy (Judgements.Refused r) certificate issuer room = Refused r

@@ -4,3 +4,4 @@ pub mod Judging
 pub mod Values
 pub mod Answers
 pub mod Statements
+pub mod Workings

@@ -13,7 +13,8 @@ ghost use Rattle.facts.specs.Case.{caseOf};
 ghost use Rattle.report.specs.Rows.{findingsOf};
 ghost use Rattle.rules.specs.Rules.{allRules, findings};
 ghost use Rattle.lint.specs.Refusals.{answerValues};
-ghost use Rattle.lint.specs.Answers.{Reported, Answered};
+ghost use Rattle.lint.specs.Answers.{Answered};
+ghost use Rattle.lint.specs.Workings.Answers.{Reported};
 
 pub enum Answer {
     // so many findings

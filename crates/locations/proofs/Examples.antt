@@ -4,7 +4,8 @@ use mathlib.Core.List.{List, [], _∷_, map}
 use mathlib.Core.Bool.{true, false}
 use Prim.Native.Nat.{ℕ}
 use Rattle.locations.specs.Uris.{beginsHttp}
-use Rattle.locations.specs.Points.{isRestricted, fullNameOf, httpFullName}
+use Rattle.locations.specs.Points.{isRestricted, fullNameOf}
+use Rattle.locations.proofs.Laws.Points.{httpFullName}
 use Rattle.texts.specs.Texts.{word}
 use Rattle.octets.specs.Octets.{octetsFrom}
 use Rattle.octets.specs.Same.{sameBy}

@@ -7,7 +7,6 @@ use mathlib.Core.List.{List}
 use mathlib.Core.Bool.{Bool, cond, _&&_, _||_}
 use Prim.Native.Nat.{ℕ}
 use lib.Dec.{eqb}
-use Rattle.locations.specs.Uris.{isHttp}
 use Rattle.der.specs.Members.{missing, membersIn, firstIn}
 use Rattle.der.specs.declared.header.Head.{Head}
 use Rattle.der.specs.Elements.{anyOf}
@@ -27,11 +26,3 @@ hasFullName s h = eqb (firstIn s h .tag) 160 && eqb (firstIn s (firstIn s h) .ta
 -- it, or an element that holds nothing
 unfoldable pub fullNameOf : List ℕ → Head → Head
 fullNameOf s h = cond (hasFullName s h) (firstIn s (firstIn s h)) (missing (h .end))
-
--- the names of a point's full name
-abbrev pub fullNames : List ℕ → Head → List Head
-fullNames s h = membersIn s (fullNameOf s h)
-
--- 418 "an HTTP URI in some full name": this point's
-abbrev pub httpFullName : List ℕ → Head → Bool
-httpFullName s h = anyOf (isHttp s) (fullNames s h)

@@ -6,7 +6,7 @@ ghost use Prim.Native.Nat.{_-_, _^_};
 ghost use lib.Dec.{ltb};
 ghost use Rattle.octets.specs.Octets.{octetsFrom};
 ghost use Rattle.numbers.specs.Numbers.{number, isOdd, exponentOk};
-ghost use Rattle.numbers.specs.Leading.{allOnes};
+ghost use Rattle.numbers.specs.Workings.Leading.{allOnes};
 
 pub fn odd(s: &[u8], body: usize, end: usize) -> bool
     ensures { λ r. ⌜ r ≡ isOdd (number (now (s .entry)) body end) ⌝ }

@@ -1,6 +1,6 @@
 // Where a number starts: zeros in front of it add nothing.
 ghost use mathlib.Core.Path.{_≡_};
-ghost use Rattle.numbers.specs.Leading.{leadOf};
+ghost use Rattle.numbers.specs.Workings.Leading.{leadOf};
 
 // The place of the first octet that is not 0; end, or body where that is later, if there is none.
 pub fn lead(s: &[u8], body: usize, end: usize) -> usize

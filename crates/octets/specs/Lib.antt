@@ -4,3 +4,4 @@ pub mod Numbers
 pub mod Same
 pub mod Places
 pub mod Copying
+pub mod Workings

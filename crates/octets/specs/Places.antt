@@ -7,10 +7,6 @@ use Rattle.octets.specs.declared.places.Place.{Place}
 abbrev pub placeFrom : ℕ → ℕ → Place
 placeFrom start end = record { start = start; len = end - start }
 
--- no place: no element is empty
-abbrev pub noPlace : Place
-noPlace = record { start = 0; len = 0 }
-
 -- where a place ends, as far as a usize counts
 abbrev pub endOf : Place → ℕ
 endOf p = min (p .start + p .len) largest

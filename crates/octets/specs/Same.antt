@@ -3,8 +3,6 @@ use mathlib.Core.List.{List, [], _∷_}
 use mathlib.Core.Bool.{Bool, true, false, cond, _&&_}
 use Prim.Native.Nat.{ℕ, _+_}
 use lib.Dec.{ltb, eqb}
-use Rattle.octets.specs.declared.comparing.Letters.{Letters}
-use Rattle.octets.specs.declared.comparing.Letters.the-variants.{Exact, AnyCase}
 
 -- as many octets here as there, each the same once f has been applied to both
 unfoldable pub sameBy : (ℕ → ℕ) → List ℕ → List ℕ → Bool
@@ -20,7 +18,3 @@ exactly b = b
 -- A to Z, 65 to 90, become a to z
 abbrev pub lowerCase : ℕ → ℕ
 lowerCase b = cond (ltb b 65) b (cond (ltb b 91) (b + 32) b)
-
-abbrev pub foldOf : Letters → ℕ → ℕ
-foldOf Exact b = exactly b
-foldOf AnyCase b = lowerCase b

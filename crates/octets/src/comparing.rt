@@ -2,7 +2,8 @@
 use crate::reading::octet_past;
 ghost use mathlib.Core.Path.{_≡_};
 ghost use Rattle.octets.specs.Octets.{octetsFrom};
-ghost use Rattle.octets.specs.Same.{sameBy, foldOf, exactly, lowerCase};
+ghost use Rattle.octets.specs.Same.{sameBy, exactly, lowerCase};
+ghost use Rattle.octets.specs.Workings.Same.{foldOf};
 
 // What two octets are held to.
 pub enum Letters {

@@ -9,7 +9,7 @@ ghost use mathlib.Core.Bool.{true};
 ghost use Prim.Native.Nat.{_%_, _<_, _≤_, _^_};
 ghost use Rattle.numbers.specs.Numbers.{number};
 ghost use Rattle.primes.specs.Primes.{primesBelow, freeOf};
-ghost use Rattle.primes.specs.Rows.{rowsOk, stepOf};
+ghost use Rattle.primes.specs.Workings.Rows.{rowsOk, stepOf};
 
 // One word more: no division, and no more than 64 bits.
 fn step(r: u64, a: u64, b: u64, w: u64) -> u64

@@ -1,7 +1,7 @@
 // Octets read four at a time.
 ghost use mathlib.Core.Path.{_≡_};
 ghost use Prim.Native.Nat.{_+_, _*_, _<_, _^_};
-ghost use Rattle.primes.specs.Rows.{wordAt};
+ghost use Rattle.primes.specs.Workings.Rows.{wordAt};
 
 fn wide64(x: u8) -> u64
     ensures { λ r. ⌜ (r ≡ x) × (r < 256) ⌝ }

@@ -7,3 +7,4 @@ pub mod Taking
 pub mod Counting
 pub mod Exactly
 pub mod Walking
+pub mod Workings

@@ -80,9 +80,3 @@ pub record Stepped (deck : List ℕ) (position : ℕ) (room : List ℕ) (r : Ite
   pub told : r ≡ itemAt deck position room
   pub values : itemValues r ≡ valuesAt deck position room
   pub bytes : last ≡ roomAt deck position room
-
--- the same of record `number` with octets p
-pub record Linted (number : ℕ) (p room : List ℕ) (r : Record) (last : List ℕ) : Type 0 where
-  pub told : r ≡ lintedRecord number p room
-  pub values : answerValues (r .answer) ≡ recordValues p room
-  pub bytes : last ≡ lintedRoom p room

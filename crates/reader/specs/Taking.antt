@@ -1,11 +1,10 @@
 -- "A record written to the deck reads back as it was" (document 00, demand 2): the octets of the record that starts at a block, in a lent buffer.
-use mathlib.Core.Bool.{cond, _&&_}
+use mathlib.Core.Bool.{cond}
 use mathlib.Core.List.{List, _++_}
 use mathlib.Core.Path.{_≡_}
-use Prim.Native.Nat.{ℕ, _+_, _*_, _/_}
+use Prim.Native.Nat.{ℕ}
 use lib.Dec.{leb}
 use lib.ListN.{length, drop}
-use Rattle.reader.specs.Runs.{from, dataFrom}
 use Rattle.reader.specs.Events.{Event, record-at, lost-at}
 use Rattle.reader.specs.Stepping.{eventAt}
 use Rattle.reader.specs.declared.taking.Layout.{Layout}
@@ -16,11 +15,6 @@ use Rattle.blocks.specs.Record.{certificateLength}
 -- octets at the front of a buffer, the rest as it was; all of it as it was if it has fewer
 unfoldable pub inFrontOf : List ℕ → List ℕ → List ℕ
 inFrontOf p buffer = cond (leb (length p) (length buffer)) (p ++ drop (length p) buffer) buffer
-
--- the same of the data of the k blocks from a position on: the desk as it was if the deck has fewer whole blocks there, or the desk fewer octets
-unfoldable pub deskWith : List ℕ → ℕ → ℕ → List ℕ → List ℕ
-deskWith deck position k desk =
-    cond (leb (position + k) (length deck / 512) && leb k (length desk / 502)) (dataFrom k (from deck position) ++ drop (k * 502) desk) desk
 
 -- how record `number` with octets p lies in the buffer
 abbrev pub layoutOf : ℕ → List ℕ → Layout
@@ -40,8 +34,3 @@ bufferTaken buffer (lost-at position loss) = buffer
 pub record TakenRecord (deck : List ℕ) (position : ℕ) (buffer : List ℕ) (r : Taken) (last : List ℕ) : Type 0 where
   pub told : r ≡ takenOf (length buffer) (eventAt deck position)
   pub bytes : last ≡ bufferTaken buffer (eventAt deck position)
-
--- the same of record `number` with octets p, where there is room
-pub record LaidOut (number : ℕ) (p buffer : List ℕ) (r : Layout) (last : List ℕ) : Type 0 where
-  pub told : r ≡ layoutOf number p
-  pub bytes : last ≡ p ++ drop (length p) buffer

@@ -4,7 +4,7 @@ ghost use mathlib.Core.List.{_++_};
 ghost use Prim.Native.Nat.{_+_, _*_, _≤_};
 ghost use lib.ListN.{length, drop};
 ghost use Rattle.reader.specs.Runs.{from, dataFrom};
-ghost use Rattle.reader.specs.Taking.{deskWith};
+ghost use Rattle.reader.specs.Workings.Desk.{deskWith};
 
 fn gather_inside(deck: &[u8], position: usize, k: usize, desk: &mut [u8])
     requires { ⌜ (512 * (position + k) ≤ length (now deck)) × (k * 502 ≤ length (now desk)) ⌝ }

@@ -11,7 +11,8 @@ ghost use Rattle.blocks.specs.Record.{certificateLength};
 ghost use Rattle.reader.specs.Runs.{from, recordFrom};
 ghost use Rattle.reader.specs.Finding.{foundAt};
 ghost use Rattle.reader.specs.declared.finding.Found.the-variants as Found;
-ghost use Rattle.reader.specs.Stepping.{Stepped, Linted, itemBlocks};
+ghost use Rattle.reader.specs.Stepping.{Stepped, itemBlocks};
+ghost use Rattle.reader.specs.Workings.Desk.{Linted};
 
 pub struct Record {
     pub number: usize,

@@ -8,7 +8,8 @@ ghost use lib.ListN.{length};
 ghost use Rattle.reader.specs.Runs.{from, recordFrom};
 ghost use Rattle.reader.specs.Finding.{foundAt};
 ghost use Rattle.reader.specs.declared.finding.Found.the-variants as Found;
-ghost use Rattle.reader.specs.Taking.{LaidOut, TakenRecord};
+ghost use Rattle.reader.specs.Taking.{TakenRecord};
+ghost use Rattle.reader.specs.Workings.Desk.{LaidOut};
 
 // How a record of that number lies in a buffer: the profile at 0, the certificate from 3 on, behind it to the end the
 // issuer.

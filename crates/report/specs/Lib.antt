@@ -6,3 +6,4 @@ pub mod Answers
 pub mod Order
 pub mod Members
 pub mod Rows
+pub mod Workings

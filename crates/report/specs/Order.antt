@@ -4,7 +4,6 @@ use mathlib.Core.Logic.{_⊎_}
 use mathlib.Core.Path.{_≡_}
 use Prim.Native.Nat.{ℕ, _+_, _≤_, _<_}
 use Rattle.report.specs.declared.sink.Entry.{Entry}
-use Rattle.der.specs.declared.header.Head.{Head}
 
 -- x is one of the list
 abbrev pub In : {A : Type 0} → A → List A → Type 0
@@ -24,15 +23,6 @@ pub record Ordered (from to : ℕ) (es : List Entry) : Type 0 where
   pub span : from ≤ to
   pub rules : (e : Entry) → In e es → (from ≤ e .rule) × (e .rule < to)
   pub rising : RisingEntries es
-
--- each item has an octet at least, and ends before those behind it start
-pub data Apart : List Head → Type 0 where
-  no-items : Apart []
-  more-items : {h : Head} {hs : List Head} → h .at < h .end → ((g : Head) → In g hs → h .end ≤ g .at) → Apart hs → Apart (h ∷ hs)
-
--- each item has an octet at least, and lies in the octets from `from` on and before `to`
-abbrev pub LieBetween : ℕ → ℕ → List Head → Type 0
-LieBetween from to hs = (h : Head) → In h hs → (from ≤ h .at) × (h .at < h .end) × (h .end ≤ to)
 
 -- each entry's place lies in the octets before limit
 abbrev pub EntriesInside : List Entry → ℕ → Type 0

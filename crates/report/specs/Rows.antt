@@ -3,7 +3,7 @@
 use mathlib.Core.List.{List, [], _∷_, _++_, map}
 use mathlib.Core.Bool.{Bool, true, false, cond, _&&_}
 use mathlib.Core.Path.{_≡_}
-use Prim.Native.Nat.{ℕ, _+_, _<_}
+use Prim.Native.Nat.{ℕ, _+_}
 use lib.Dec.{leb}
 use Rattle.report.specs.declared.sink.Entry.{Entry}
 use Rattle.report.specs.Entries.{entryAt}
@@ -50,22 +50,6 @@ findingsOf p (r ∷ rs) = entriesOf p r ++ findingsOf p rs
 -- A function that appends the entries of these rules, in profile p, to room in which n are: its answer r, and the room that it leaves, last.
 pub record Puts (p : Profile) (rs : List Row) (n : ℕ) (room : List ℕ) (r : ℕ) (last : List ℕ) : Type 0 where
   pub put : Put (findingsOf p rs) n room r last
-
--- ---- what is asked of a rule, and of the list
-
--- each element starts before all that are behind it
-pub data Up : List Head → Type 0 where
-  no-heads : Up []
-  more-heads : {h : Head} {hs : List Head} → ((g : Head) → In g hs → h .at < g .at) → Up hs → Up (h ∷ hs)
-
--- the elements of a rule come in their order, and each of them is one of those that P holds of
-pub record RowOk (P : Head → Type 0) (r : Row) : Type 0 where
-  pub up : Up (r .broken)
-  pub all : (h : Head) → In h (r .broken) → P h
-
-pub data RowsOk (P : Head → Type 0) : List Row → Type 0 where
-  no-rows : RowsOk P []
-  more-rows : {r : Row} {rs : List Row} → RowOk P r → RowsOk P rs → RowsOk P (r ∷ rs)
 
 -- the rules' numbers ascend, from `from` on and below `to`
 unfoldable pub ascend : ℕ → ℕ → List Row → Bool

@@ -55,8 +55,3 @@ outAfter side out (lost-at position loss ∷ es) = out
 pub record FetchedFirst (es : List Event) (side : Side) (out : List ℕ) (r : Fetched) (last : List ℕ) : Type 0 where
   pub told : r ≡ fetchedOf side (length out) es
   pub bytes : last ≡ outAfter side out es
-
--- the same of octets s
-pub record PutOctets (s : List ℕ) (next : ℕ) (out : List ℕ) (r : Fetched) (last : List ℕ) : Type 0 where
-  pub told : r ≡ fetchedOctets s next (length out)
-  pub bytes : last ≡ inFrontOf s out

@@ -10,7 +10,8 @@ ghost use Rattle.reader.specs.Runs.{from, recordFrom};
 ghost use Rattle.reader.specs.Events.{eventsFrom};
 ghost use Rattle.reader.specs.Finding.{foundAt};
 ghost use Rattle.reader.specs.declared.finding.Found.the-variants as Found;
-ghost use Rattle.retrieval.specs.Fetching.{writtenSide, numbered, PutOctets, FetchedFirst};
+ghost use Rattle.retrieval.specs.Fetching.{writtenSide, numbered, FetchedFirst};
+ghost use Rattle.retrieval.specs.Workings.Fetching.{PutOctets};
 
 pub enum Fetched {
     // so many octets at the front of the buffer, and the position of the block behind the record

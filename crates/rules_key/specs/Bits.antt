@@ -3,7 +3,6 @@ use mathlib.Core.List.{List, [], _∷_}
 use mathlib.Core.Bool.{Bool, false, _&&_}
 use Prim.Native.Nat.{ℕ, _+_, min}
 use lib.Dec.{eqb}
-use Rattle.rules_key.specs.declared.bits.RsaKey.{RsaKey}
 use Rattle.octets.specs.Octets.{octetAt}
 use Rattle.der.specs.Header.{headOf, childrenOf}
 use Rattle.der.specs.Contents.{contentsOf}
@@ -42,6 +41,3 @@ rsaBits s h =
     eqb (octetAt s (h .body)) 0
     && (isSound (stretchSoundness s (bitsFrom h) (h .end))
     && (eqb (sequenceIn s h .tag) 48 && twoPositive s (childrenOf s (sequenceIn s h .body) (sequenceIn s h .end))))
-
-unfoldable pub rsaKeyOf : List ℕ → Head → RsaKey
-rsaKeyOf s h = record { kept = rsaBits s h; modulus = modulusOf s h; exponent = exponentOf s h }

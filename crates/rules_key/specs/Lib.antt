@@ -4,3 +4,4 @@ pub mod Algorithm
 pub mod Bits
 pub mod Rsa
 pub mod Rules
+pub mod Workings

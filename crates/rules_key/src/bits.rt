@@ -2,7 +2,8 @@
 use der::Head;
 ghost use mathlib.Core.Path.{_≡_};
 ghost use Prim.Native.Nat.{_+_, min};
-ghost use Rattle.rules_key.specs.Bits.{bitsFrom, isPositiveInteger, rsaKeyOf};
+ghost use Rattle.rules_key.specs.Bits.{bitsFrom, isPositiveInteger};
+ghost use Rattle.rules_key.specs.Workings.Bits.{rsaKeyOf};
 
 // Whether rule 204 is kept, and the two INTEGERs that rules 205 to 207 judge then.
 pub struct RsaKey {

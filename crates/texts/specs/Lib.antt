@@ -2,3 +2,4 @@
 pub mod Texts
 pub mod Putting
 pub mod Numerals
+pub mod Workings

@@ -35,7 +35,3 @@ decimalFrom n cs = upTo (areDigits cs) (valueFrom n cs)
 unfoldable pub decimalOf : List ℕ → Numeral
 decimalOf [] = Other
 decimalOf (c ∷ cs) = decimalFrom 0 (c ∷ cs)
-
--- one digit written on
-unfoldable pub appended : ℕ → ℕ → Numeral
-appended n c = upTo (isDecimalDigit c) (10 * n + (c - 48))

@@ -1,6 +1,7 @@
 // What decimal digits say.
 ghost use mathlib.Core.Path.{_≡_};
-ghost use Rattle.texts.specs.Numerals.{isDecimalDigit, appended, decimalOf};
+ghost use Rattle.texts.specs.Numerals.{isDecimalDigit, decimalOf};
+ghost use Rattle.texts.specs.Workings.Numerals.{appended};
 
 pub enum Numeral {
     Number(u32),

@@ -25,10 +25,6 @@ unfoldable pub anyBelow : (ℕ → Bool) → ℕ → Bool
 anyBelow test zero = false
 anyBelow test (suc n) = test n || anyBelow test n
 
--- whether any bit is set
-unfoldable pub anySet : List ℕ → Bool
-anySet bits = anyBelow (bitAt bits) (8 * length bits)
-
 abbrev pub usageOf : List ℕ → Head → List ℕ
 usageOf s v = bitOctets (contentsOf s v)
 
@@ -51,7 +47,3 @@ passingBelow test (suc n) = cond (test n) (n ∷ passingBelow test n) (passingBe
 -- the bits that are set in one octet, by their numbers
 unfoldable pub bitsIn : ℕ → List ℕ
 bitsIn octet = passingBelow (bitAt (octet ∷ [])) 8
-
--- the last bit of a is set, and that of b is not
-abbrev pub oddAlone : ℕ → ℕ → Bool
-oddAlone a b = not (eqb (b % 2) 1) && eqb (a % 2) 1

@@ -6,7 +6,8 @@ ghost use mathlib.Core.List.{[], _∷_};
 ghost use Prim.Native.Nat.{_+_, _-_};
 ghost use Rattle.octets.specs.Octets.{octetsFrom};
 ghost use Rattle.profiles.specs.Values.{digitalSignature};
-ghost use Rattle.usages.specs.Usage.{bitOctets, bitAt, anyBelow, anySet, usageOf, otherBit, oddAlone, otherBits, bitsIn};
+ghost use Rattle.usages.specs.Usage.{bitOctets, bitAt, anyBelow, usageOf, otherBit, otherBits, bitsIn};
+ghost use Rattle.usages.specs.Workings.Usage.{anySet, oddAlone};
 
 // Rule 404: whether digitalSignature is set.
 pub fn signs(s: &[u8], v: Head) -> bool

@@ -10,9 +10,9 @@ use Rattle.asn.specs.Grammar.{Form, Inside, Slots, passes, setInOrder, t
 use Rattle.asn.specs.Grammar.Form.{none, alt}
 use Rattle.asn.specs.Grammar.Inside.{leaf, parts, set}
 use Rattle.asn.specs.Grammar.Slots.{done, one, opt, many}
-use Rattle.asn.specs.Choosing.{Alternative, Field, alternativeFor, fieldFor, inField, mayStand, lacking}
-use Rattle.asn.specs.Choosing.Alternative.{nobody, holding}
-use Rattle.asn.specs.Choosing.Field.{nowhere, here}
+use Rattle.asn.specs.Workings.Choosing.{Alternative, Field, alternativeFor, fieldFor, inField, mayStand, lacking}
+use Rattle.asn.specs.Workings.Choosing.Alternative.{nobody, holding}
+use Rattle.asn.specs.Workings.Choosing.Field.{nowhere, here}
 use Rattle.asn.specs.declared.fitting.Verdict.{Verdict}
 use Rattle.asn.specs.declared.fitting.Verdict.the-variants.{Stranger, Fits, Wrong}
 use Rattle.der.specs.Contents.{contentsOf}

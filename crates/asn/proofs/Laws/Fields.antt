@@ -18,8 +18,8 @@ use Rattle.asn.specs.Grammar.Inside.{parts}
 use Rattle.asn.specs.Grammar.Slots.{done, one, opt}
 use Rattle.asn.specs.Module.{certificate, tbsCertificate}
 use Rattle.asn.specs.Answers.{certificateVerdict}
-use Rattle.asn.specs.Fields.{Taken, Perhaps, CertificateFields, Outermost, TbsFields}
-use Rattle.asn.specs.Fields.Optional.{absent, present}
+use Rattle.asn.proofs.Terms.Fields.{Taken, Perhaps, CertificateFields, Outermost, TbsFields}
+use Rattle.asn.proofs.Terms.Fields.Optional.{absent, present}
 use Rattle.asn.specs.declared.fitting.Verdict.{Verdict}
 use Rattle.asn.specs.declared.fitting.Verdict.the-variants.{Stranger, Fits, Wrong}
 use Rattle.der.specs.Header.{childrenOf}

@@ -15,7 +15,7 @@ use lib.Pow.{pow-mono}
 use lib.Dec.{eqb, ltb}
 use borrow.Author.Tests.{ne-eqb}
 use Rattle.asn.specs.Grammar.{Test, oneOctet, naturalOk, namedOk}
-use Rattle.asn.specs.Table.{testAt}
+use Rattle.asn.specs.Workings.Table.{testAt}
 use Rattle.octets.specs.Octets.{octetAt, octetsFrom}
 use Rattle.der.specs.Contents.{lastOf, primitiveOk}
 use Rattle.der.proofs.Laws.Contents.{last-law}

@@ -7,7 +7,7 @@ use Prim.Native.Nat.{ℕ, zero, suc}
 use lib.ListN.{getD}
 use Rattle.asn.specs.Grammar.{Form, Slots}
 use Rattle.asn.specs.Module.{judged, valueOf}
-use Rattle.asn.specs.Table.{alone, slotsAt}
+use Rattle.asn.specs.Workings.Table.{alone, slotsAt}
 
 map-at : {A B : Type 0} (f : A → B) (xs : List A) (n : ℕ) (d : A) → getD (map f xs) n (f d) ≡ f (getD xs n d)
 map-at f [] n d = refl

@@ -5,7 +5,7 @@ use mathlib.Core.List.{List, [], _∷_}
 use Prim.Native.Nat.{ℕ, zero, suc, _+_}
 use native.Mathlib.Numerals.{add-one}
 use lib.ListN.{getD}
-use Rattle.asn.specs.Table.{rowsSay}
+use Rattle.asn.specs.Workings.Table.{rowsSay}
 
 module _ {ℓ} {A : Type ℓ} (say : ℕ → A → A) (nil : A) (ends : (a : A) → nil ≡ say 0 a) where
   at-row : (rs : List ℕ) (n : ℕ) → getD (rowsSay say nil rs) n nil ≡ say (getD rs n 0) (getD (rowsSay say nil rs) (suc n) nil)

@@ -18,10 +18,11 @@ use Rattle.asn.specs.declared.fitting.Verdict.{Verdict}
 use Rattle.asn.specs.declared.fitting.Verdict.the-variants.{Fits, Wrong}
 use Rattle.asn.specs.declared.fitting.Found.{Found}
 use Rattle.asn.specs.Grammar.{Form, Inside, Slots, passes, setInOrder, takes, follows, isFits}
-use Rattle.asn.specs.Choosing.{alternativeFor, fieldFor, inField, mayStand, lacking}
-use Rattle.asn.specs.Choosing.Alternative.{nobody, holding}
-use Rattle.asn.specs.Choosing.Field.{nowhere, here}
-use Rattle.asn.specs.Table.{testCount, types, allForms, slotRows, rowsSay, formAt, slotsAt, testAt, insideOf, formOf, fieldsOf, alternativeAt, fieldAt}
+use Rattle.asn.specs.Workings.Choosing.{alternativeFor, fieldFor, inField, mayStand, lacking}
+use Rattle.asn.specs.Workings.Choosing.Alternative.{nobody, holding}
+use Rattle.asn.specs.Workings.Choosing.Field.{nowhere, here}
+use Rattle.asn.specs.Workings.Table.{testCount, types, allForms, slotRows, rowsSay, formAt, slotsAt}
+use Rattle.asn.specs.Workings.Table.{testAt, insideOf, formOf, fieldsOf, alternativeAt, fieldAt}
 use Rattle.octets.specs.Octets.{octetsFrom}
 use Rattle.der.specs.Header.{headOf, childrenOf}
 use Rattle.der.specs.declared.header.Head.{Head}

@@ -1,4 +1,4 @@
--- The rows of src/table.rt say what specs/Table.antt has: antt reads the whole tables. Written by tools/grammar_table.py.
+-- The rows of src/table.rt say what specs/Workings/Table.antt has: antt reads the whole tables. Written by tools/grammar_table.py.
 --     tables-right, roots-right      the rows of the types and of their fields; the rows where the judged types begin
 -- Assumes nothing.
 use mathlib.Core.Path.{_≡_, refl}
@@ -10,7 +10,7 @@ use Rattle.asn.specs.Module.{subjectPublicKeyInfo, extension, extensions
 use Rattle.asn.specs.Module.{generalName, generalNames, authorityKeyIdentifier, basicConstraints, subjectKeyIdentifier, keyUsage}
 use Rattle.asn.specs.Module.{extKeyUsage, policyQualifierInfo, policyInformation, certificatePolicies, accessDescription}
 use Rattle.asn.specs.Module.{authorityInfoAccess, distributionPointName, distributionPoint, cRLDistributionPoints, ocspNoCheck}
-use Rattle.asn.specs.Table.{Tables, types, alone, allForms, slotRows, formOf, fieldsOf, rowsSay, formAt, slotsAt}
+use Rattle.asn.specs.Workings.Table.{Tables, types, alone, allForms, slotRows, formOf, fieldsOf, rowsSay, formAt, slotsAt}
 
 unfoldable pub rows : List ℕ
 rows =

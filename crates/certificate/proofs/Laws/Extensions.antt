@@ -14,7 +14,8 @@ use native.Mathlib.Omega.{arith}
 use lib.ListN.{length, getD}
 use lib.Dec.{eqb}
 use borrow.Author.Tests.{eq-eqb, eqb-true, eqb-false}
-use Rattle.certificate.specs.Extensions.{accessIdentifier, nocheck, identifiers, positionFrom, slotBy, slotFor, slotOf}
+use Rattle.certificate.specs.Extensions.{accessIdentifier, nocheck, identifiers, positionFrom, slotFor, slotOf}
+use Rattle.certificate.specs.Workings.Slots.{slotBy}
 use Rattle.certificate.specs.Extensions.{identifierOf, sameIdentifier, seenBefore}
 use Rattle.certificate.specs.Slots.{slotCount, firstInSlot}
 use Rattle.octets.specs.Octets.{octetAt, octetsFrom}

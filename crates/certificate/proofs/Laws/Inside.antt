@@ -15,15 +15,15 @@ use native.Mathlib.Omega.{arith}
 use lib.ListN.{length}
 use lib.Dec.{ltb, eqb}
 use borrow.Author.Tests.{ltb-true, ltb-false}
-use Rattle.certificate.specs.Inside.{Between, LiesIn, FieldsInside, KeyInside, AllBetween, AllInside}
-use Rattle.certificate.specs.Inside.AllBetween.{none, more}
+use Rattle.certificate.proofs.Terms.Inside.{Between, LiesIn, FieldsInside, KeyInside, AllBetween, AllInside}
+use Rattle.certificate.proofs.Terms.Inside.AllBetween.{none, more}
 use Rattle.certificate.specs.Fields.{wholeOf, tbsOf, outerOf, versionIn, serialIn, innerIn, issuerIn, periodIn, subjectIn, keyIn, listAfter}
 use Rattle.certificate.specs.Fields.{extensionListIn, notBeforeIn, notAfterIn, certificateOf}
 use Rattle.certificate.specs.Key.{keyOf}
 use Rattle.certificate.specs.Extensions.{extensionOf}
 use Rattle.der.specs.Header.{headOf, brokenHead, childrenOf}
-use Rattle.der.specs.Walking.{Chain}
-use Rattle.der.specs.Walking.Chain.{done, next}
+use Rattle.der.proofs.Terms.Walking.{Chain}
+use Rattle.der.proofs.Terms.Walking.Chain.{done, next}
 use Rattle.der.specs.declared.header.Head.{Head}
 use Rattle.der.proofs.Laws.Header.{head-start, head-forward, head-body, head-narrow}
 use Rattle.der.proofs.Laws.Walking.{children-chain}

@@ -13,9 +13,9 @@ use lib.Dec.{ltb, eqb}
 use borrow.Author.Tests.{ltb-true, ltb-false, eq-eqb, ne-eqb, eqb-true}
 use Rattle.certificate.specs.Fields.{wholeOf, tbsOf, outerOf, versionIn, serialIn, innerIn, issuerIn, periodIn, subjectIn, keyIn, extendedAfter}
 use Rattle.certificate.specs.Fields.{listAfter, extensionListIn, notBeforeIn, notAfterIn, timeIs, timeIn, validityOf, certificateOf}
-use Rattle.certificate.specs.Named.{VersionNamed, ExtensionsNamed, Named}
-use Rattle.certificate.specs.Named.VersionNamed.{unwritten, written}
-use Rattle.certificate.specs.Named.ExtensionsNamed.{without, listed}
+use Rattle.certificate.proofs.Terms.Named.{VersionNamed, ExtensionsNamed, Named}
+use Rattle.certificate.proofs.Terms.Named.VersionNamed.{unwritten, written}
+use Rattle.certificate.proofs.Terms.Named.ExtensionsNamed.{without, listed}
 use Rattle.der.specs.Header.{headOf, childrenOf, brokenHead}
 use Rattle.der.specs.declared.header.Head.{Head}
 use Rattle.der.proofs.Laws.Header.{head-narrow, head-start, head-forward}
@@ -29,8 +29,8 @@ use Rattle.asn.specs.Grammar.{Form, Inside, isReal, takes, fits, holds}
 use Rattle.asn.specs.Answers.{certificateVerdict}
 use Rattle.asn.specs.Module.{explicit, free, version, time, validity, extensions}
 use Rattle.asn.specs.Grammar.Form.{none, alt}
-use Rattle.asn.specs.Fields.{Optional, Outermost, TbsFields}
-use Rattle.asn.specs.Fields.Optional.{absent, present}
+use Rattle.asn.proofs.Terms.Fields.{Optional, Outermost, TbsFields}
+use Rattle.asn.proofs.Terms.Fields.Optional.{absent, present}
 use Rattle.asn.specs.declared.fitting.Verdict.the-variants.{Stranger, Fits, Wrong}
 use Rattle.asn.proofs.Laws.Fields.{takes-tag, parts-fit, one-fits, done-fits, certificate-fields, tbs-fields}
 use Rattle.der.specs.Members.{firstIn, after, past, insideTag}

@@ -12,11 +12,11 @@ use lib.Dec.{eqb}
 use Rattle.certificate.specs.Fields.{certificateOf}
 use Rattle.certificate.specs.Key.{keyOf}
 use Rattle.certificate.specs.Extensions.{extensionOf}
-use Rattle.certificate.specs.Named.{ExtensionsNamed, CriticalNamed, ExtensionNamed, AllNamed, ParametersNamed, KeyNamed}
-use Rattle.certificate.specs.Named.CriticalNamed.{unmarked, marked}
-use Rattle.certificate.specs.Named.AllNamed.{none, more}
-use Rattle.certificate.specs.Named.ExtensionsNamed.{without, listed}
-use Rattle.certificate.specs.Named.ParametersNamed.{lacking, given}
+use Rattle.certificate.proofs.Terms.Named.{ExtensionsNamed, CriticalNamed, ExtensionNamed, AllNamed, ParametersNamed, KeyNamed}
+use Rattle.certificate.proofs.Terms.Named.CriticalNamed.{unmarked, marked}
+use Rattle.certificate.proofs.Terms.Named.AllNamed.{none, more}
+use Rattle.certificate.proofs.Terms.Named.ExtensionsNamed.{without, listed}
+use Rattle.certificate.proofs.Terms.Named.ParametersNamed.{lacking, given}
 use Rattle.der.specs.Header.{childrenOf}
 use Rattle.der.specs.declared.header.Head.{Head}
 use Rattle.der.proofs.Laws.Children.{children-done}
@@ -24,8 +24,8 @@ use Rattle.asn.specs.Grammar.{Form, unlessWrong, fits, follows}
 use Rattle.asn.specs.Grammar.Slots.{done, many}
 use Rattle.asn.specs.Answers.{certificateVerdict}
 use Rattle.asn.specs.Module.{booleanTrue, extension, extensions, algorithmIdentifier, subjectPublicKeyInfo}
-use Rattle.asn.specs.Fields.{Optional}
-use Rattle.asn.specs.Fields.Optional.{absent, present}
+use Rattle.asn.proofs.Terms.Fields.{Optional}
+use Rattle.asn.proofs.Terms.Fields.Optional.{absent, present}
 use Rattle.asn.specs.declared.fitting.Verdict.{Verdict}
 use Rattle.asn.specs.declared.fitting.Verdict.the-variants.{Stranger, Fits, Wrong}
 use Rattle.asn.proofs.Laws.Fields.{parts-fit, one-fits, opt-fits, done-fits}

@@ -16,7 +16,8 @@ use lib.Seq.{getD-set-same, getD-set-other, ext-getD}
 use lib.Dec.{ltb, eqb}
 use borrow.Author.Tests.{eqb-true, eqb-false, eq-eqb, ne-eqb, lt-ltb, le-ltb, ltb-true, ltb-false}
 use Rattle.certificate.specs.Extensions.{slotOf, seenBefore}
-use Rattle.certificate.specs.Slots.{numbersFrom, slotCount, bySlot, firstInSlot, hasRepeats, firstsOf}
+use Rattle.certificate.specs.Slots.{numbersFrom, slotCount, bySlot, firstInSlot, hasRepeats}
+use Rattle.certificate.specs.Workings.Slots.{firstsOf}
 use Rattle.certificate.specs.declared.slots.Firsts.{Firsts}
 use Rattle.der.specs.Header.{headOf, childrenOf}
 use Rattle.der.specs.Members.{missing, membersIn}

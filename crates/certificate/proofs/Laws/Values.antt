@@ -14,8 +14,9 @@ use lib.ListN.{getD}
 use lib.Dec.{ltb, eqb}
 use borrow.Author.Tests.{ltb-true, ltb-false, not-true, eqb-true}
 use Rattle.certificate.specs.Extensions.{slotOf, extensionOf}
-use Rattle.certificate.specs.Slots.{slotCount, bySlot, firstInSlot, isGood, slotFrom, emptySlot, firstsOf, slotsOf, readSlots}
-use Rattle.certificate.specs.Named.{SlotNamed, ValueNamed}
+use Rattle.certificate.specs.Slots.{slotCount, bySlot, firstInSlot, isGood, slotFrom, emptySlot, slotsOf, readSlots}
+use Rattle.certificate.specs.Workings.Slots.{firstsOf}
+use Rattle.certificate.proofs.Terms.Named.{SlotNamed, ValueNamed}
 use Rattle.certificate.specs.declared.slots.Firsts.{Firsts}
 use Rattle.certificate.specs.declared.slots.Slot.{Slot}
 use Rattle.certificate.specs.declared.slots.SlotTable.{SlotTable}

@@ -1,4 +1,4 @@
--- A deck that ends with a whole block takes blocks: what is added to it is found at positions of its own.
+-- A deck that ends with a whole block takes blocks (`TakesBlocks`): what is added to it is found at positions of its own.
 -- Assumes nothing.
 use mathlib.Core.Bool.{Bool, true, false, cond}
 use mathlib.Core.Path.{_≡_, refl, ap, _∙_}
@@ -11,8 +11,12 @@ use lib.ListN.{length, take, drop, length-append, length-drop}
 use lib.Seq.{take-append-le, drop-append-le}
 use borrow.Author.Tests.{eqb-true}
 use Rattle.reader.specs.Runs.{cut, blocks}
-use Rattle.deckpack.specs.Ending.{endingOf, TakesBlocks}
+use Rattle.deckpack.specs.Ending.{endingOf}
 use Rattle.deckpack.specs.declared.appending.Ending.the-variants.{Whole, Torn}
+
+-- whatever is added to the deck is cut into blocks by itself, and the deck's own blocks stay as they are
+abbrev pub TakesBlocks : List ℕ → Type 0
+TakesBlocks deck = (more : List ℕ) → blocks (deck ++ more) ≡ blocks deck ++ blocks more
 
 -- k whole blocks, and m behind them
 cut-join : (k m : ℕ) (deck more : List ℕ) → length deck ≡ 512 * k → cut (k + m) (deck ++ more) ≡ cut k deck ++ cut m more

@@ -20,9 +20,9 @@ use Rattle.der.specs.Elements.HeldFrom.{outer, held}
 use Rattle.der.specs.Members.{membersIn}
 use Rattle.der.specs.Soundness.{faulty, unordered, FirstPlace, first, judge, soundness, stretchSoundness, derSoundness, soundnessPlace}
 use Rattle.der.specs.Soundness.FirstPlace.{nothing, found}
-use Rattle.der.specs.Walking.{Chain}
-use Rattle.der.specs.Walking.Chain.{done, next}
 use Rattle.der.specs.declared.header.Head.{Head}
+use Rattle.der.proofs.Terms.Walking.{Chain}
+use Rattle.der.proofs.Terms.Walking.Chain.{done, next}
 use Rattle.der.specs.declared.walk.Soundness.the-variants.{Unsound}
 use Rattle.der.proofs.Laws.Header.{head-start, head-forward, head-body}
 use Rattle.der.proofs.Laws.Walking.{children-chain}

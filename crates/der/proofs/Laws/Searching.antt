@@ -24,8 +24,8 @@ use borrow.Author.Tests.{le-leb, lt-leb, leb-true, leb-false}
 use Rattle.der.specs.Header.{headOf, childrenOf}
 use Rattle.der.specs.Members.{missing}
 use Rattle.der.specs.Elements.{anyOf, firstOf, isEmpty}
-use Rattle.der.specs.Walking.{Chain}
-use Rattle.der.specs.Walking.Chain.{done, next}
+use Rattle.der.proofs.Terms.Walking.{Chain}
+use Rattle.der.proofs.Terms.Walking.Chain.{done, next}
 use Rattle.der.specs.declared.header.Head.{Head}
 use Rattle.der.proofs.Laws.Header.{head-start, head-forward}
 use Rattle.der.proofs.Laws.Children.{children-done, children-next}

@@ -14,10 +14,11 @@ use lib.Dec.{ltb}
 use borrow.Author.Tests.{ltb-true, ltb-false}
 use Rattle.der.specs.Header.{headOf, childrenOf}
 use Rattle.der.specs.Contents.{constructed}
-use Rattle.der.specs.Elements.{joined, elementsOf, membersOf}
-use Rattle.der.specs.Walking.{Chain, Rising, startOf}
-use Rattle.der.specs.Walking.Chain.{done, next}
-use Rattle.der.specs.Walking.Rising.{none, more}
+use Rattle.der.specs.Elements.{joined, elementsOf}
+use Rattle.der.specs.Workings.Walk.{membersOf}
+use Rattle.der.proofs.Terms.Walking.{Chain, Rising, startOf}
+use Rattle.der.proofs.Terms.Walking.Chain.{done, next}
+use Rattle.der.proofs.Terms.Walking.Rising.{none, more}
 use Rattle.der.specs.declared.header.Head.{Head}
 use Rattle.der.proofs.Laws.Header.{head-start, head-forward, head-inside, head-constructed}
 use Rattle.der.proofs.Laws.Children.{children-done, children-next}

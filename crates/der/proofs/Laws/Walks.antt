@@ -16,8 +16,9 @@ use borrow.Author.Tests.{eq-eqb, ne-eqb, eqb-true}
 use Rattle.der.specs.Header.{headOf, childrenOf}
 use Rattle.der.specs.Contents.{constructed, elementOk}
 use Rattle.der.specs.Order.{octetsLe, ascendFrom, ascending, octetsOf}
-use Rattle.der.specs.Elements.{Node, heldBy, joined, elementsOf, membersOf}
-use Rattle.der.specs.Soundness.{faulty, isSet, unordered, FirstPlace, first, judge, soundness, stretchSoundness, isSound, andThen, inOrder, soundList}
+use Rattle.der.specs.Elements.{Node, heldBy, joined, elementsOf}
+use Rattle.der.specs.Workings.Walk.{membersOf, andThen, inOrder, soundList}
+use Rattle.der.specs.Soundness.{faulty, isSet, unordered, FirstPlace, first, judge, soundness, stretchSoundness, isSound}
 use Rattle.der.specs.Soundness.FirstPlace.{nothing, found}
 use Rattle.der.specs.declared.header.Head.{Head}
 use Rattle.der.specs.declared.walk.Soundness.{Soundness}

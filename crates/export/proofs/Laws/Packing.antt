@@ -9,7 +9,8 @@ use mathlib.Core.Logic.{_≢_}
 use Prim.Native.Nat.{ℕ, _+_, _*_, _^_, _<_}
 use native.Mathlib.Omega.{arith}
 use borrow.Author.Tests.{eq-eqb, ne-eqb}
-use Rattle.export.specs.Packing.{packedRefusal, packedValues, Packable}
+use Rattle.export.specs.Packing.{packedRefusal, packedValues}
+use Rattle.export.specs.Workings.Packing.{Packable}
 use Rattle.refusals.specs.declared.table.Values.{Values}
 use Rattle.refusals.proofs.Laws.Table.{Tabled}
 use Rattle.lint.specs.Refusals.{refusalValues, answerValues}

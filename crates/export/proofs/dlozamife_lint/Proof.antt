@@ -1,7 +1,8 @@
 -- `export::dlozamife_lint` meets its contract: the values of the answer are the table's, and have room in the number. Assumes nothing.
 use mathlib.Core.Path.{_≡_, sym, ap, subst, _∙_}
 use borrow.Author.Needs.{needs}
-use Rattle.export.specs.Packing.{packedValues, Packable}
+use Rattle.export.specs.Packing.{packedValues}
+use Rattle.export.specs.Workings.Packing.{Packable}
 use Rattle.lint.specs.Values.{lintValues}
 use Rattle.export.proofs.Laws.Packing.{lint-packable}
 use Rattle.export.proofs.dlozamife_lint.Statement.{statement}

@@ -1,7 +1,8 @@
 -- `export::dlozamife_write_record` meets its contract: the values of the answer are the table's, and have room in the number. Assumes nothing.
 use mathlib.Core.Path.{_≡_, sym, ap, subst, _∙_}
 use borrow.Author.Needs.{needs}
-use Rattle.export.specs.Packing.{packedValues, Packable}
+use Rattle.export.specs.Packing.{packedValues}
+use Rattle.export.specs.Workings.Packing.{Packable}
 use Rattle.writer.specs.Values.{writeValues}
 use Rattle.export.proofs.Laws.Packing.{write-packable}
 use Rattle.export.proofs.dlozamife_write_record.Statement.{statement}

@@ -8,8 +8,9 @@ use mathlib.Core.List.{List, [], _∷_, _++_, Memᴰ·append-left, Memᴰ·appen
 use mathlib.Core.List.List·Memᴰ.{List·Memᴰ·tail as behind}
 use Prim.Native.Nat.{ℕ}
 use lib.ListN.{length}
-use Rattle.facts.specs.Elements.{Element, AllElements}
+use Rattle.facts.specs.Elements.{Element}
 use Rattle.facts.specs.Elements.Topmost.{outermost}
+use Rattle.facts.proofs.Laws.Members.{AllElements, AllMembers, here, among, same-element, members-of}
 use Rattle.der.specs.Header.{childrenOf}
 use Rattle.der.specs.Elements.HeldFrom.{outer}
 use Rattle.der.specs.declared.header.Head.{Head}
@@ -17,16 +18,15 @@ use Rattle.asn.specs.Grammar.{fits}
 use Rattle.asn.specs.Grammar.Slots.{done}
 use Rattle.asn.specs.Answers.{certificateVerdict}
 use Rattle.asn.specs.Module.{certificate, tbsCertificate, validity}
-use Rattle.asn.specs.Fields.{TbsFields}
+use Rattle.asn.proofs.Terms.Fields.{TbsFields}
 use Rattle.asn.specs.declared.fitting.Verdict.the-variants.{Fits}
 use Rattle.asn.proofs.Laws.Fields.{one-fits}
 use Rattle.certificate.specs.Fields.{certificateOf}
-use Rattle.certificate.specs.Named.{VersionNamed}
-use Rattle.certificate.specs.Named.VersionNamed.{unwritten, written}
+use Rattle.certificate.proofs.Terms.Named.{VersionNamed}
+use Rattle.certificate.proofs.Terms.Named.VersionNamed.{unwritten, written}
 use Rattle.certificate.proofs.Laws.Named.{named}
 use Rattle.der.proofs.Laws.Members.{children-first}
 use Rattle.der.specs.Members.{membersIn}
-use Rattle.facts.proofs.Laws.Members.{AllMembers, here, among, same-element, members-of}
 
 pub record FieldElements (s : List ℕ) : Type 0 where
   pub tbs : Element s (certificateOf s .tbs)

@@ -19,8 +19,8 @@ use Rattle.der.specs.Elements.HeldFrom.{outer, held}
 use Rattle.der.proofs.Laws.Header.{head-narrow}
 use Rattle.der.specs.declared.header.Head.{Head}
 use Rattle.certificate.specs.Fields.{certificateOf}
-use Rattle.certificate.specs.Inside.{Between, LiesIn, AllBetween}
-use Rattle.certificate.specs.Inside.AllBetween.{none, more}
+use Rattle.certificate.proofs.Terms.Inside.{Between, LiesIn, AllBetween}
+use Rattle.certificate.proofs.Terms.Inside.AllBetween.{none, more}
 use Rattle.certificate.proofs.Laws.Inside.{between-head, between-wider, certificate-inside, members-inside, value-part-inside, key-inside}
 use Rattle.report.specs.Order.{In}
 

@@ -1,4 +1,5 @@
 -- Elements by the lists that they are in.
+--     AllElements                 all of a list are elements
 --     here, among                 the first of a list; in a list that is the same as another
 --     same-element                an element under another name
 --     members-by, members-of      the members of an element that is constructed, by its identifier or by its type
@@ -12,7 +13,7 @@ use mathlib.Core.Bool.{true, false}
 use Prim.Native.Nat.{ℕ}
 use native.Mathlib.Omega.{arith}
 use lib.Dec.{eqb}
-use Rattle.facts.specs.Elements.{Element, AllElements}
+use Rattle.facts.specs.Elements.{Element}
 use Rattle.der.specs.Contents.{constructed}
 use Rattle.der.specs.declared.header.Head.{Head}
 use Rattle.asn.specs.Grammar.{Form, Inside, unlessWrong, fits, follows}
@@ -26,6 +27,10 @@ use Rattle.certificate.proofs.Laws.Named.{fit-tag}
 use Rattle.der.specs.Members.{membersIn}
 use Rattle.der.proofs.Laws.Places.{held-members}
 use Rattle.report.specs.Order.{In}
+
+-- every element of a list
+abbrev pub AllElements : List ℕ → List Head → Type 0
+AllElements s hs = (h : Head) → In h hs → Element s h
 
 -- ---- the same under another name
 

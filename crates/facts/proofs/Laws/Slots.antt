@@ -12,8 +12,9 @@ use Prim.Native.Nat.{ℕ, _<_}
 use lib.ListN.{getD}
 use native.Mathlib.Nat.{le-refl}
 use Rattle.facts.specs.Case.{caseIn, extension}
-use Rattle.facts.specs.Elements.{extensionsOf, Element, AllElements}
+use Rattle.facts.specs.Elements.{extensionsOf, Element}
 use Rattle.facts.specs.Elements.Topmost.{in-value}
+use Rattle.facts.proofs.Laws.Members.{AllElements, here, among, same-element, members-by, members-of}
 use Rattle.der.specs.Contents.{constructed}
 use Rattle.der.specs.Elements.{isEmpty}
 use Rattle.der.specs.Elements.HeldFrom.{outer}
@@ -24,15 +25,15 @@ use Rattle.der.proofs.Laws.Members.{children-first}
 use Rattle.asn.specs.Grammar.{fits}
 use Rattle.asn.specs.Module.{extensions, explicit, valueOf}
 use Rattle.asn.specs.Answers.{certificateVerdict}
-use Rattle.asn.specs.Fields.{Optional}
-use Rattle.asn.specs.Fields.Optional.{absent, present}
+use Rattle.asn.proofs.Terms.Fields.{Optional}
+use Rattle.asn.proofs.Terms.Fields.Optional.{absent, present}
 use Rattle.asn.specs.declared.fitting.Verdict.the-variants.{Fits}
 use Rattle.certificate.specs.Fields.{certificateOf}
 use Rattle.certificate.specs.Extensions.{extensionOf}
 use Rattle.certificate.specs.Slots.{slotCount, emptySlot, slotsOf}
-use Rattle.certificate.specs.Named.{ExtensionsNamed, ExtensionNamed, AllNamed}
-use Rattle.certificate.specs.Named.ExtensionsNamed.{without, listed}
-use Rattle.certificate.specs.Named.AllNamed.{none, more}
+use Rattle.certificate.proofs.Terms.Named.{ExtensionsNamed, ExtensionNamed, AllNamed}
+use Rattle.certificate.proofs.Terms.Named.ExtensionsNamed.{without, listed}
+use Rattle.certificate.proofs.Terms.Named.AllNamed.{none, more}
 use Rattle.certificate.specs.Issuer.{Known}
 use Rattle.certificate.specs.Standing.{Standing, standingIn, extensionBy, standingBy}
 use Rattle.certificate.specs.declared.extensions.Extension.{Extension}
@@ -42,7 +43,6 @@ use Rattle.certificate.proofs.Laws.Parts.{certificate-extensions-named}
 use Rattle.certificate.proofs.Laws.Standing.{standing-is, table-at}
 use Rattle.certificate.proofs.Laws.Values.{slot-there, slot-good}
 use Rattle.report.specs.Order.{In}
-use Rattle.facts.proofs.Laws.Members.{here, among, same-element, members-by, members-of}
 use Rattle.facts.proofs.Laws.Fields.{field-elements, in-extended}
 
 named-in : {s : List ℕ} {h : Head} {hs : List Head} → AllNamed s hs → In h hs → ExtensionNamed s h

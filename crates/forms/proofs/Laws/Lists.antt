@@ -24,17 +24,18 @@ use Rattle.der.specs.Header.{headOf, childrenOf}
 use Rattle.der.specs.Members.{missing, membersIn}
 use Rattle.der.specs.Elements.{anyOf, firstOf, isEmpty}
 use Rattle.der.specs.declared.header.Head.{Head}
-use Rattle.der.specs.Walking.{Chain}
-use Rattle.der.specs.Walking.Chain.{done, next}
+use Rattle.der.proofs.Terms.Walking.{Chain}
+use Rattle.der.proofs.Terms.Walking.Chain.{done, next}
 use Rattle.der.proofs.Laws.Header.{head-forward, head-body}
 use Rattle.der.proofs.Laws.Children.{children-done, children-next}
 use Rattle.der.proofs.Laws.Walking.{children-chain}
 use Rattle.der.proofs.Laws.Searching.{Full, first-none, first-here, first-later, any-full, children-full}
 use Rattle.report.specs.Entries.{noted}
-use Rattle.report.specs.Forms.{each, one, gathered, isBehind}
+use Rattle.report.proofs.Laws.Loops.{gathered}
+use Rattle.report.specs.Workings.Forms.{each, one, isBehind}
 use Rattle.report.specs.Putting.{Put}
-use Rattle.report.specs.Order.{Apart, LieBetween}
-use Rattle.report.specs.Order.Apart.{no-items}
+use Rattle.report.proofs.Terms.Items.{Apart, LieBetween}
+use Rattle.report.proofs.Terms.Items.Apart.{no-items}
 use Rattle.report.proofs.Laws.Putting.{_⨾_}
 use Rattle.report.proofs.Laws.Forms.{each-none, each-join}
 use Rattle.report.proofs.Laws.First.{one-by-first}

@@ -1,5 +1,6 @@
 -- Host names: the labels judged in one pass.
 --     has-done, has-found, has-next      octets from the kth on, searched for one
+--     scanned                            the labels judged in one pass
 --     labels-some                        a name has a label
 --     scan-labels                        the labels judged one by one are those judged in one pass
 --     scan-done, scan-bad, scan-next     the pass from the kth octet on
@@ -15,11 +16,16 @@ use lib.ListN.{length}
 use lib.Dec.{leb, ltb, eqb}
 use borrow.Author.Tests.{eq-eqb, ne-eqb, eqb-true, le-leb, lt-leb, ltb-true, ltb-false}
 use Rattle.hosts.specs.Hosts.{hasOctet, labelOctet, labelOctets, labelOk, labelsFrom, labelsOf, labelsOk, hostOf}
-use Rattle.hosts.specs.Scanning.{mayEnd, mayGrow, mayFollow, sizeAfter, scanned}
+use Rattle.hosts.specs.Workings.Scanning.{mayEnd, mayGrow, mayFollow, sizeAfter}
 use Rattle.hosts.specs.declared.hosts.Host.the-variants.{Plain, Neither}
 use Rattle.octets.specs.Octets.{octetAt, octetsFrom}
 use Rattle.octets.proofs.Laws.Octets.{octets-done, octets-next, octets-long}
 use Rattle.der.specs.Contents.{lastOf}
+
+-- the pass over the octets that are left: dotted says whether a dot was met
+unfoldable pub scanned : ℕ → ℕ → Bool → List ℕ → Bool
+scanned size last dotted [] = dotted && mayEnd size last
+scanned size last dotted (b ∷ bs) = mayFollow size last b && scanned (sizeAfter size b) b (dotted || eqb b 46) bs
 
 -- ---- octets searched for x
 

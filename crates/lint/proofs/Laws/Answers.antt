@@ -11,7 +11,8 @@ use Prim.Native.Nat.{ℕ, _*_, _≤_, _<_, _^_}
 use lib.Dec.{leb}
 use lib.ListN.{length}
 use borrow.Author.Tests.{not-true, not-false}
-use Rattle.lint.specs.Answers.{answerTo, Reported}
+use Rattle.lint.specs.Answers.{answerTo}
+use Rattle.lint.specs.Workings.Answers.{Reported}
 use Rattle.lint.specs.declared.reasons.Refusal.the-variants.{NoRoom}
 use Rattle.lint.specs.declared.linting.Answer.the-variants.{Report, Refused}
 use Rattle.report.specs.declared.sink.Entry.{Entry}

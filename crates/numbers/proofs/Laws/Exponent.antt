@@ -13,7 +13,7 @@ use lib.Pow.{pow-add, pow-mono, pow-pos}
 use lib.Dec.{ltb, eqb}
 use borrow.Author.Tests.{lt-ltb, le-ltb, eq-eqb, ne-eqb, eqb-true, eqb-false}
 use Rattle.numbers.specs.Numbers.{number, isOdd}
-use Rattle.numbers.specs.Leading.{leadOf, allOnes}
+use Rattle.numbers.specs.Workings.Leading.{leadOf, allOnes}
 use Rattle.octets.specs.Octets.{Octets, octetAt, octetsFrom}
 use Rattle.octets.specs.Numbers.{numberFrom}
 use Rattle.numbers.proofs.Laws.Values.{octets-none, octets-first, pow-octet, value-top, value-below, number-top, number-below, number-none}

@@ -10,7 +10,7 @@ use native.Mathlib.Omega.{arith}
 use lib.Dec.{eqb}
 use borrow.Author.Tests.{eq-eqb, ne-eqb, eqb-true, eqb-false}
 use Rattle.numbers.specs.Numbers.{number}
-use Rattle.numbers.specs.Leading.{leadBy, leadOf}
+use Rattle.numbers.specs.Workings.Leading.{leadBy, leadOf}
 use Rattle.octets.specs.Octets.{octetAt, octetsFrom}
 use Rattle.octets.specs.Numbers.{numberFrom}
 use Rattle.numbers.proofs.Laws.Values.{number-first}

@@ -14,7 +14,7 @@ use lib.Dec.{ltb}
 use lib.IntN.{pos, subℕ}
 use borrow.Author.Tests.{lt-ltb, ltb-true, ltb-false}
 use Rattle.numbers.specs.Numbers.{number, isPositive}
-use Rattle.numbers.specs.Leading.{leadOf}
+use Rattle.numbers.specs.Workings.Leading.{leadOf}
 use Rattle.octets.specs.Octets.{Octets, octetAt, octetsFrom}
 use Rattle.octets.specs.Numbers.{numberFrom}
 use Rattle.octets.proofs.Laws.Octets.{octets-long}

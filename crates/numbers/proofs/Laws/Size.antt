@@ -12,7 +12,7 @@ use lib.Pow.{pow-add, pow-mono}
 use lib.Dec.{ltb, leb}
 use borrow.Author.Tests.{lt-ltb, le-ltb, le-leb, lt-leb, ltb-true, ltb-false}
 use Rattle.numbers.specs.Numbers.{number, hasBits}
-use Rattle.numbers.specs.Leading.{leadOf}
+use Rattle.numbers.specs.Workings.Leading.{leadOf}
 use Rattle.octets.specs.Octets.{Octets, octetAt}
 use Rattle.numbers.proofs.Laws.Values.{ltb-same, number-top, number-below}
 use Rattle.numbers.proofs.Laws.Leading.{leads}

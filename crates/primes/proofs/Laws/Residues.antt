@@ -18,7 +18,7 @@ use lib.Pow.{pow-mono}
 use lib.Dec.{ltb, leb, eqb}
 use borrow.Author.Tests.{eq-eqb, ne-eqb, eqb-true, ltb-true, leb-true}
 use Rattle.primes.specs.Primes.{freeOf}
-use Rattle.primes.specs.Rows.{rowsOk, wordAt, stepOf}
+use Rattle.primes.specs.Workings.Rows.{rowsOk, wordAt, stepOf}
 use Rattle.octets.specs.Octets.{Octets, octetAt, octetsFrom}
 use Rattle.octets.proofs.Laws.Tests.{and-l, and-r}
 use Rattle.octets.specs.Numbers.{numberFrom}

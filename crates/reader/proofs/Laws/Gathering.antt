@@ -15,7 +15,7 @@ use lib.ListN.{length, take, drop, length-append, length-drop}
 use lib.Seq.{take-at, drop-at, take-add, take-take, drop-drop, drop-append-add, length-take-le}
 use borrow.Author.Tests.{leb-true, le-leb}
 use Rattle.reader.specs.Runs.{from, blockAt, dataFrom}
-use Rattle.reader.specs.Taking.{deskWith}
+use Rattle.reader.specs.Workings.Desk.{deskWith}
 use Rattle.octets.specs.Copying.{copied}
 use Rattle.octets.proofs.Laws.Copying.{copied-paste}
 use Rattle.octets.proofs.Laws.Tests.{and-l, and-r}

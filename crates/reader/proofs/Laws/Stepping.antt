@@ -19,8 +19,9 @@ use borrow.Author.Tests.{lt-ltb}
 use Rattle.reader.specs.Runs.{from, starts, dataFrom, recordFrom}
 use Rattle.reader.specs.Events.{Event, record-at, lost-at, eventIf}
 use Rattle.reader.specs.Finding.{foundIf, foundAt}
-use Rattle.reader.specs.Taking.{deskWith}
-use Rattle.reader.specs.Stepping.{lintedRecord, lintedRoom, itemOf, roomAfter, eventAt, itemAt, roomAt, Linted, Stepped, recordValues, itemValues, eventValues, valuesAt}
+use Rattle.reader.specs.Workings.Desk.{deskWith, Linted}
+use Rattle.reader.specs.Stepping.{lintedRecord, lintedRoom, itemOf, roomAfter, eventAt, itemAt, roomAt, Stepped, recordValues, itemValues}
+use Rattle.reader.specs.Stepping.{eventValues, valuesAt}
 use Rattle.reader.specs.declared.finding.Loss.{Loss}
 use Rattle.reader.specs.declared.finding.Found.{Found}
 use Rattle.reader.specs.declared.stepping.Record.{Record}

@@ -21,7 +21,8 @@ use Rattle.reader.specs.Runs.{from, firstBlock, dataFrom, run, starts, r
 use Rattle.reader.specs.Events.{Event, record-at, lost-at, lossOf}
 use Rattle.reader.specs.Finding.{foundAt}
 use Rattle.reader.specs.Stepping.{eventAt}
-use Rattle.reader.specs.Taking.{inFrontOf, layoutOf, takenOf, bufferTaken, TakenRecord, LaidOut}
+use Rattle.reader.specs.Taking.{inFrontOf, layoutOf, takenOf, bufferTaken, TakenRecord}
+use Rattle.reader.specs.Workings.Desk.{LaidOut}
 use Rattle.reader.specs.declared.finding.Loss.{Loss}
 use Rattle.reader.specs.declared.taking.Layout.{Layout}
 use Rattle.reader.specs.declared.taking.Taken.{Taken}

@@ -13,9 +13,11 @@ use lib.Dec.{leb}
 use borrow.Author.Tests.{le-leb, lt-leb}
 use Rattle.report.specs.declared.sink.Entry.{Entry}
 use Rattle.report.specs.Entries.{entryAt, entryIf, noted}
-use Rattle.report.specs.Forms.{filter, each, onesOf, one, isBehind}
-use Rattle.report.specs.Order.{In, Apart}
-use Rattle.report.specs.Order.Apart.{no-items, more-items}
+use Rattle.report.specs.Forms.{filter, onesOf}
+use Rattle.report.specs.Workings.Forms.{each, one, isBehind}
+use Rattle.report.specs.Order.{In}
+use Rattle.report.proofs.Terms.Items.{Apart}
+use Rattle.report.proofs.Terms.Items.Apart.{no-items, more-items}
 use Rattle.der.specs.Elements.{firstOf, isEmpty}
 use Rattle.der.specs.declared.header.Head.{Head}
 

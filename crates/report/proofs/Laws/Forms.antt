@@ -6,7 +6,8 @@ use mathlib.Core.List.{List, [], _∷_, _++_, append-assoc}
 use mathlib.Core.Bool.{Bool, true, false}
 use Prim.Native.Nat.{ℕ}
 use Rattle.report.specs.Entries.{entryIf, noted}
-use Rattle.report.specs.Forms.{filter, each}
+use Rattle.report.specs.Forms.{filter}
+use Rattle.report.specs.Workings.Forms.{each}
 use Rattle.der.specs.declared.header.Head.{Head}
 
 module _ (rule : ℕ) (bad : Head → Bool) where

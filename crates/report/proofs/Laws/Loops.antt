@@ -1,11 +1,12 @@
 -- Loops over the elements of a stretch.
+--     gathered                            lists of entries, one behind the other
 --     room-kept                           the room stays as long as it was
 --     Turn                                a loop that appends what each element gives: what is still to be put
 --     turn-start, turn-next, turn-end     what is put for the elements one after the other is what is put for their list
 --     each-gathered                         "each" gives an entry, or none, for each item
 -- Assumes nothing.
 use mathlib.Core.Path.{_≡_, refl, ap, _∙_}
-use mathlib.Core.List.{List, [], _∷_, map}
+use mathlib.Core.List.{List, [], _∷_, map, _++_}
 use mathlib.Core.Bool.{Bool, true, false, cond}
 use Prim.Native.Nat.{ℕ, _+_, _*_, _≤_, _<_}
 use lib.ListN.{length}
@@ -13,13 +14,18 @@ use lib.Seq.{sets, length-sets}
 use lib.Dec.{leb}
 use Rattle.report.specs.declared.sink.Entry.{Entry}
 use Rattle.report.specs.Entries.{width, entryOctets, noted}
-use Rattle.report.specs.Forms.{each, gathered}
+use Rattle.report.specs.Workings.Forms.{each}
 use Rattle.report.specs.Putting.{tick, putOne, putAll, Put}
 use Rattle.der.specs.Header.{headOf, childrenOf}
 use Rattle.der.specs.declared.header.Head.{Head}
 use Rattle.der.proofs.Laws.Children.{children-done, children-next}
 use Rattle.report.proofs.Laws.Putting.{Rest, rest-start, rest-step, rest-end}
 use Rattle.report.proofs.Laws.Forms.{each-none, each-next}
+
+-- the lists of entries that elements give, one behind the other
+unfoldable pub gathered : List (List Entry) → List Entry
+gathered [] = []
+gathered (es ∷ lists) = es ++ gathered lists
 
 -- ---- the room
 

@@ -18,12 +18,13 @@ use lib.Dec.{leb}
 use lib.ListN.{length, getD}
 use borrow.Author.Tests.{leb-true, leb-false}
 use Rattle.report.specs.declared.sink.Entry.{Entry}
-use Rattle.report.specs.Order.{In, Before, RisingEntries, Ordered, Apart, LieBetween}
+use Rattle.report.specs.Order.{In, Before, RisingEntries, Ordered}
+use Rattle.report.proofs.Terms.Items.{Apart, LieBetween}
 use Rattle.report.specs.Order.RisingEntries.{no-entries, more-entries}
-use Rattle.report.specs.Order.Apart.{no-items, more-items}
+use Rattle.report.proofs.Terms.Items.Apart.{no-items, more-items}
 use Rattle.der.specs.Header.{headOf, childrenOf}
-use Rattle.der.specs.Walking.{Chain}
-use Rattle.der.specs.Walking.Chain.{done, next}
+use Rattle.der.proofs.Terms.Walking.{Chain}
+use Rattle.der.proofs.Terms.Walking.Chain.{done, next}
 use Rattle.der.specs.declared.header.Head.{Head}
 use Rattle.der.proofs.Laws.Header.{head-start, head-forward}
 use Rattle.der.proofs.Laws.Children.{children-done}

@@ -1,6 +1,6 @@
 -- The two passes: one that counts, over no room, and one that writes.
---     pass-short         what the first pass shows where its count does not fit the room
---     pass-written       what both show where it does
+--     Short, pass-short             what the first pass shows where its count does not fit the room
+--     WrittenWhole, pass-written    what both show where it does
 --     pass-none          what the first shows where it counts nothing: there is nothing to write
 --     filled-short, filled-written      the room at the end
 --     report-long, filled-long          how long the entries' octets are, and that the room keeps its length
@@ -20,8 +20,19 @@ use borrow.Author.Tests.{ltb-true, ltb-false, lt-ltb, leb-true, leb-false, le-le
 use Rattle.report.specs.declared.sink.Entry.{Entry}
 use Rattle.report.specs.Entries.{width, entryOctets, reportOctets}
 use Rattle.report.specs.Putting.{cap, tick, putOne, counted, putAll, Put}
-use Rattle.report.specs.Answers.{enoughRoom, filled, Short, WrittenWhole}
+use Rattle.report.specs.Answers.{enoughRoom, filled}
 use Rattle.report.proofs.Laws.Putting.{nothing}
+
+-- what is known once a first pass has found the room short
+pub record Short (es : List Entry) (room last : List ℕ) : Type 0 where
+  pub short : enoughRoom es room ≡ false
+  pub bytes : last ≡ filled es room
+
+-- what is known once a first pass has found room for n findings, and a second one has written them
+pub record WrittenWhole (es : List Entry) (room : List ℕ) (n : ℕ) (last : List ℕ) : Type 0 where
+  pub enough : enoughRoom es room ≡ true
+  pub count : n ≡ length es
+  pub bytes : last ≡ filled es room
 
 -- ---- the count
 

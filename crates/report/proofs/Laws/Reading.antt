@@ -21,7 +21,6 @@ use Rattle.report.specs.Answers.{enoughRoom, filled}
 use Rattle.report.specs.Order.{In, Ordered, EntriesInside}
 use Rattle.octets.specs.Octets.{octetAt}
 use Rattle.octets.specs.Numbers.{pairAt}
-use Rattle.octets.specs.Places.{noPlace}
 use Rattle.octets.proofs.Laws.Octets.{past}
 use Rattle.report.proofs.Laws.Passes.{filled-written}
 
@@ -43,7 +42,7 @@ module _ (s : List ℕ) (k : ℕ) where
   unfolding entryOf
   entry-by e f g = made-same e f g
 
-  pub entry-past : length s / width < k → record { rule = 0; place = noPlace } ≡ entryOf s k
+  pub entry-past : length s / width < k → made 0 0 0 ≡ entryOf s k
   entry-past h =
       entry-by (pair-past s (width * k) (omega arith)) (pair-past s (width * k + 2) (omega arith)) (pair-past s (width * k + 4) (omega arith))
 

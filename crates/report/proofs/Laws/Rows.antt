@@ -24,14 +24,17 @@ use lib.Dec.{leb}
 use borrow.Author.Tests.{leb-true}
 use Rattle.report.specs.declared.sink.Entry.{Entry}
 use Rattle.report.specs.Entries.{entryAt, entryIf, noted}
-use Rattle.report.specs.Forms.{filter, onesOf, each, one}
-use Rattle.report.specs.Order.{In, Before, RisingEntries, Ordered, Apart, EntriesInside}
+use Rattle.report.specs.Forms.{filter, onesOf}
+use Rattle.report.specs.Workings.Forms.{each, one}
+use Rattle.report.specs.Order.{In, Before, RisingEntries, Ordered, EntriesInside}
+use Rattle.report.proofs.Terms.Items.{Apart}
 use Rattle.report.specs.Order.RisingEntries.{no-entries, more-entries}
-use Rattle.report.specs.Order.Apart.{no-items, more-items}
+use Rattle.report.proofs.Terms.Items.Apart.{no-items, more-items}
 use Rattle.report.specs.Putting.{Put}
-use Rattle.report.specs.Rows.{Row, _for_⦂_, _⦂_, brokenAt, onlyIf, entriesOf, findingsOf, Puts, Up, RowOk, RowsOk, ascend, BrokenIn}
-use Rattle.report.specs.Rows.Up.{no-heads, more-heads}
-use Rattle.report.specs.Rows.RowsOk.{no-rows, more-rows}
+use Rattle.report.specs.Rows.{Row, _for_⦂_, _⦂_, brokenAt, onlyIf, entriesOf, findingsOf, Puts, ascend, BrokenIn}
+use Rattle.report.proofs.Terms.Rows.{Up, RowOk, RowsOk}
+use Rattle.report.proofs.Terms.Rows.Up.{no-heads, more-heads}
+use Rattle.report.proofs.Terms.Rows.RowsOk.{no-rows, more-rows}
 use Rattle.octets.proofs.Laws.Tests.{and-l, and-r}
 use Rattle.der.specs.declared.header.Head.{Head}
 use Rattle.profiles.specs.Judged.{judgedIn, judgedBy, judges}

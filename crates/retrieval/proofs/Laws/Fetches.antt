@@ -16,7 +16,8 @@ use lib.Dec.{eqb, leb}
 use lib.ListN.{length, take, drop, length-take, length-drop}
 use lib.Seq.{take-at}
 use borrow.Author.Tests.{leb-true, le-leb, eqb-true, eqb-false}
-use Rattle.retrieval.specs.Fetching.{writtenSide, numbered, sidesIn, fetchedOf, outAfter, PutOctets, FetchedFirst}
+use Rattle.retrieval.specs.Fetching.{writtenSide, numbered, sidesIn, fetchedOf, outAfter, FetchedFirst}
+use Rattle.retrieval.specs.Workings.Fetching.{PutOctets}
 use Rattle.retrieval.specs.Fetches.{FetchedFrom, Fetches, nothing, another, FetchesAll, FetchesEnd, GoesForward, RoomEnough}
 use Rattle.retrieval.specs.declared.Fetched.{Fetched}
 use Rattle.blocks.specs.Record.{parts, certificateLength, certificateOctets, issuerOctets}

@@ -14,7 +14,8 @@ use native.Mathlib.Omega.{arith}
 use lib.ListN.{length, take, drop, length-append, length-drop}
 use lib.Seq.{take-at, length-take-le}
 use borrow.Author.Tests.{le-leb, lt-leb, eq-eqb, ne-eqb}
-use Rattle.retrieval.specs.Fetching.{writtenSide, numbered, PutOctets, FetchedFirst}
+use Rattle.retrieval.specs.Fetching.{writtenSide, numbered, FetchedFirst}
+use Rattle.retrieval.specs.Workings.Fetching.{PutOctets}
 use Rattle.retrieval.specs.declared.Fetched.{Fetched}
 use Rattle.octets.specs.Copying.{copied}
 use Rattle.blocks.specs.Record.{parts, certificateLength, certificateOctets, issuerOctets}

@@ -29,7 +29,8 @@ use Rattle.facts.proofs.Laws.Case.{case-is}
 use Rattle.facts.proofs.Laws.Inside.{element-inside}
 use Rattle.report.specs.Entries.{entryAt}
 use Rattle.report.specs.Order.{In, Ordered, EntriesInside}
-use Rattle.report.specs.Rows.{Row, findingsOf, RowsOk, ascend}
+use Rattle.report.specs.Rows.{Row, findingsOf, ascend}
+use Rattle.report.proofs.Terms.Rows.{RowsOk}
 use Rattle.report.specs.declared.sink.Entry.{Entry}
 use Rattle.report.proofs.Laws.Rows.{ok-join, rows-ordered, rows-at, rows-inside, InRows, rows-in, none-broken as none-broken-of}
 use Rattle.rules_fields.specs.Version.{versionRows}

@@ -22,8 +22,9 @@ use Rattle.facts.specs.Case.{caseIn, extension}
 use Rattle.facts.specs.Elements.{Element}
 use Rattle.facts.proofs.Laws.Slots.{in-list, list-place, StandingOk, standing-ok}
 use Rattle.report.specs.Forms.{filter}
-use Rattle.report.specs.Rows.{_for_⦂_, brokenAt, RowOk, RowsOk}
-use Rattle.report.specs.Rows.RowsOk.{no-rows, more-rows}
+use Rattle.report.specs.Rows.{_for_⦂_, brokenAt}
+use Rattle.report.proofs.Terms.Rows.{RowOk, RowsOk}
+use Rattle.report.proofs.Terms.Rows.RowsOk.{no-rows, more-rows}
 use Rattle.report.proofs.Laws.Order.{children-apart}
 use Rattle.report.proofs.Laws.Rows.{none-ok, at-ok, each-ok, ok-join}
 use Rattle.rules_extensions.proofs.Laws.Slots.{rowsFrom, slots-ok}

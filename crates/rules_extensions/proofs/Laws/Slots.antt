@@ -9,8 +9,9 @@ use native.Mathlib.Omega.{arith}
 use Rattle.certificate.specs.Slots.{numbersFrom, slotCount}
 use Rattle.der.specs.declared.header.Head.{Head}
 use Rattle.profiles.specs.declared.fields.Profile.{Profile}
-use Rattle.report.specs.Rows.{Row, findingsOf, Puts, RowOk, RowsOk}
-use Rattle.report.specs.Rows.RowsOk.{no-rows, more-rows}
+use Rattle.report.specs.Rows.{Row, findingsOf, Puts}
+use Rattle.report.proofs.Terms.Rows.{RowOk, RowsOk}
+use Rattle.report.proofs.Terms.Rows.RowsOk.{no-rows, more-rows}
 use Rattle.report.specs.declared.sink.Entry.{Entry}
 use Rattle.report.proofs.Laws.Putting.{Rest}
 use Rattle.report.proofs.Laws.Rows.{rest-row, puts-rest}

@@ -20,8 +20,9 @@ use Rattle.certificate.specs.Issuer.{Known}
 use Rattle.facts.specs.Case.{caseIn}
 use Rattle.facts.specs.Elements.{Element}
 use Rattle.facts.proofs.Laws.Fields.{field-elements}
-use Rattle.report.specs.Rows.{_for_⦂_, brokenAt, RowOk, RowsOk}
-use Rattle.report.specs.Rows.RowsOk.{no-rows, more-rows}
+use Rattle.report.specs.Rows.{_for_⦂_, brokenAt}
+use Rattle.report.proofs.Terms.Rows.{RowOk, RowsOk}
+use Rattle.report.proofs.Terms.Rows.RowsOk.{no-rows, more-rows}
 use Rattle.report.proofs.Laws.Rows.{at-ok, twice-ok}
 
 module _ (s : List ℕ) (e : certificateVerdict s ≡ Fits) where

@@ -10,7 +10,8 @@ use Prim.Native.Nat.{ℕ, _≤_, _<_}
 use native.Mathlib.Omega.{arith}
 use lib.Dec.{ltb, eqb}
 use borrow.Author.Tests.{ltb-true, ltb-false, eqb-true, eqb-false}
-use Rattle.rules_key.specs.Bits.{bitsFrom, sequenceIn, modulusOf, exponentOf, isPositiveInteger, twoPositive, rsaBits, rsaKeyOf}
+use Rattle.rules_key.specs.Bits.{bitsFrom, sequenceIn, modulusOf, exponentOf, isPositiveInteger, twoPositive, rsaBits}
+use Rattle.rules_key.specs.Workings.Bits.{rsaKeyOf}
 use Rattle.rules_key.specs.declared.bits.RsaKey.{RsaKey}
 use Rattle.octets.specs.Octets.{octetAt}
 use Rattle.octets.proofs.Laws.Tests.{and-l, and-r}

@@ -6,7 +6,7 @@ use mathlib.Core.List.{List, [], _∷_}
 use mathlib.Core.Bool.{not, _&&_}
 use Prim.Native.Nat.{ℕ}
 use Rattle.profiles.specs.Judged.{judgedIn, rowOf}
-use Rattle.rules_key.specs.Bits.{rsaKeyOf}
+use Rattle.rules_key.specs.Workings.Bits.{rsaKeyOf}
 use Rattle.rules_key.specs.Rsa.{rsaRows}
 use Rattle.rules_key.specs.declared.bits.RsaKey.{RsaKey}
 use Rattle.octets.specs.Numbers.{numberOf}

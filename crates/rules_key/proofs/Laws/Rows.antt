@@ -30,13 +30,14 @@ use Rattle.primes.specs.Primes.{primesBelow, freeOf}
 use Rattle.profiles.specs.declared.fields.Profile.{Profile}
 use Rattle.certificate.specs.Issuer.{Known}
 use Rattle.facts.specs.Case.{caseIn}
-use Rattle.facts.specs.Elements.{Fills, subjectKey, bitsStart, RsaBits, Element, AllElements}
+use Rattle.facts.specs.Elements.{Fills, subjectKey, bitsStart, RsaBits, Element}
+use Rattle.facts.proofs.Laws.Members.{AllElements, here, among, same-element, members-by}
 use Rattle.facts.specs.Elements.Topmost.{in-bits}
 use Rattle.facts.specs.Kinds.{isRsa}
 use Rattle.facts.proofs.Laws.Key.{algorithm-element, bits-element}
-use Rattle.facts.proofs.Laws.Members.{here, among, same-element, members-by}
-use Rattle.report.specs.Rows.{_for_⦂_, brokenAt, RowOk, RowsOk}
-use Rattle.report.specs.Rows.RowsOk.{no-rows, more-rows}
+use Rattle.report.specs.Rows.{_for_⦂_, brokenAt}
+use Rattle.report.proofs.Terms.Rows.{RowOk, RowsOk}
+use Rattle.report.proofs.Terms.Rows.RowsOk.{no-rows, more-rows}
 use Rattle.report.proofs.Laws.Rows.{at-ok}
 use Rattle.rules_key.proofs.Laws.Bits.{rsa-members}
 

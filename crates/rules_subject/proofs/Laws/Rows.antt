@@ -29,17 +29,19 @@ use Rattle.certificate.proofs.Laws.Named.{named}
 use Rattle.subjects.specs.Types.{attributeValue}
 use Rattle.hosts.specs.Names.{someNamed}
 use Rattle.facts.specs.Case.{caseIn, extension}
-use Rattle.facts.specs.Elements.{Element, AllElements}
-use Rattle.facts.proofs.Laws.Members.{AllMembers, many-fit, members-of}
+use Rattle.facts.specs.Elements.{Element}
+use Rattle.facts.proofs.Laws.Members.{AllElements, AllMembers, many-fit, members-of}
 use Rattle.facts.proofs.Laws.Fields.{field-elements}
 use Rattle.forms.specs.Kinds.{hasArc}
 use Rattle.forms.specs.Lists.{attributesIn}
 use Rattle.forms.specs.declared.nests.Nest.the-variants.{Set}
 use Rattle.forms.proofs.Laws.Lists.{items-in, sets-apart}
 use Rattle.report.specs.Forms.{filter, onesOf}
-use Rattle.report.specs.Order.{In, Apart}
-use Rattle.report.specs.Rows.{_for_⦂_, RowOk, RowsOk}
-use Rattle.report.specs.Rows.RowsOk.{no-rows, more-rows}
+use Rattle.report.specs.Order.{In}
+use Rattle.report.proofs.Terms.Items.{Apart}
+use Rattle.report.specs.Rows.{_for_⦂_}
+use Rattle.report.proofs.Terms.Rows.{RowOk, RowsOk}
+use Rattle.report.proofs.Terms.Rows.RowsOk.{no-rows, more-rows}
 use Rattle.report.proofs.Laws.Order.{children-apart}
 use Rattle.report.proofs.Laws.Rows.{none-ok, at-ok, each-ok, one-ok}
 

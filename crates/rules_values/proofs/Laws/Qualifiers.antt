@@ -16,8 +16,8 @@ use Rattle.der.proofs.Laws.Children.{children-done}
 use Rattle.der.proofs.Laws.Members.{second-is, second-none}
 use Rattle.asn.specs.Grammar.{fits}
 use Rattle.asn.specs.Module.{sequenceOf, policyInformation, policyQualifierInfo}
-use Rattle.asn.specs.Fields.{Optional}
-use Rattle.asn.specs.Fields.Optional.{absent, present}
+use Rattle.asn.proofs.Terms.Fields.{Optional}
+use Rattle.asn.proofs.Terms.Fields.Optional.{absent, present}
 use Rattle.asn.specs.declared.fitting.Verdict.the-variants.{Fits}
 use Rattle.asn.proofs.Laws.Fields.{parts-fit, one-fits, opt-fits, done-fits}
 use Rattle.policies.specs.Policies.{qualifiersOf}
@@ -27,7 +27,7 @@ use Rattle.facts.proofs.Laws.Members.{AllMembers, here, among, members-of}
 use Rattle.forms.specs.Lists.{holderIn, itemsWithin}
 use Rattle.forms.specs.declared.nests.Nest.the-variants.{Policy}
 use Rattle.forms.proofs.Laws.Lists.{parts-apart}
-use Rattle.report.specs.Order.{Apart}
+use Rattle.report.proofs.Terms.Items.{Apart}
 
 -- ---- in a policy
 

@@ -28,16 +28,17 @@ use Rattle.certificate.specs.Standing.{Standing}
 use Rattle.certificate.specs.declared.extensions.Extension.{Extension}
 use Rattle.certificate.specs.Issuer.{KeyIdentifier, Known}
 use Rattle.facts.specs.Case.{caseIn, extension}
-use Rattle.facts.specs.Elements.{Element, AllElements}
-use Rattle.facts.proofs.Laws.Members.{AllMembers, members-of, listed-fit}
+use Rattle.facts.specs.Elements.{Element}
+use Rattle.facts.proofs.Laws.Members.{AllElements, AllMembers, members-of, listed-fit}
 use Rattle.facts.proofs.Laws.Slots.{GoodOk, StandingOk, standing-ok}
 use Rattle.forms.specs.Lists.{itemsWithin}
 use Rattle.forms.specs.Values.{whereGood}
 use Rattle.forms.specs.declared.nests.Nest.the-variants.{Policy}
 use Rattle.forms.proofs.Laws.Lists.{items-in}
 use Rattle.report.specs.Forms.{filter}
-use Rattle.report.specs.Rows.{_for_⦂_, brokenAt, RowOk, RowsOk}
-use Rattle.report.specs.Rows.RowsOk.{no-rows, more-rows}
+use Rattle.report.specs.Rows.{_for_⦂_, brokenAt}
+use Rattle.report.proofs.Terms.Rows.{RowOk, RowsOk}
+use Rattle.report.proofs.Terms.Rows.RowsOk.{no-rows, more-rows}
 use Rattle.report.proofs.Laws.Order.{children-apart}
 use Rattle.report.proofs.Laws.Rows.{none-ok, at-ok, each-ok, ok-join}
 use Rattle.rules_values.proofs.Laws.Qualifiers.{qualifiers-of, qualifiers-apart}

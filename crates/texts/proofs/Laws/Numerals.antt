@@ -17,7 +17,8 @@ use lib.ListN.{length, getD, drop, drop-of-length-le}
 use lib.Seq.{drop-cons}
 use borrow.Author.Tests.{le-leb, lt-leb, leb-true, leb-false}
 use Rattle.octets.proofs.Laws.Tests.{and-l}
-use Rattle.texts.specs.Numerals.{isDecimalDigit, areDigits, valueFrom, largestNumber, upTo, decimalFrom, decimalOf, appended}
+use Rattle.texts.specs.Numerals.{isDecimalDigit, areDigits, valueFrom, largestNumber, upTo, decimalFrom, decimalOf}
+use Rattle.texts.specs.Workings.Numerals.{appended}
 use Rattle.texts.specs.declared.numerals.Numeral.the-variants.{Number, Other}
 
 -- a number is told apart from none

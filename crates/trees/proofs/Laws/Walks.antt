@@ -20,7 +20,8 @@ use Rattle.trees.specs.Reading.{tagOf, treesOf, treeOf}
 use Rattle.der.specs.Header.{headOf, childrenOf}
 use Rattle.der.specs.Contents.{constructed as isConstructed, contentsOf, elementOk}
 use Rattle.der.specs.Order.{ascendFrom, ascending, octetsOf}
-use Rattle.der.specs.Elements.{Node, elementsOf, membersOf}
+use Rattle.der.specs.Elements.{Node, elementsOf}
+use Rattle.der.specs.Workings.Walk.{membersOf}
 use Rattle.der.specs.Soundness.{faulty, unordered, FirstPlace, first, judge, soundness, stretchSoundness, soundnessNumber}
 use Rattle.der.specs.Soundness.FirstPlace.{nothing, found}
 use Rattle.der.specs.declared.header.Head.{Head}

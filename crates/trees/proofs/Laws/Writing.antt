@@ -12,10 +12,11 @@ use Rattle.trees.specs.Trees.{Tree, Trees, identifierOctet, element, enc
 use Rattle.trees.specs.Reading.{tagOf, treesOf, treeOf}
 use Rattle.der.specs.Header.{tagOk, lengthOf, lengthOk, headerSize, wholeHead, headOf, childrenOf}
 use Rattle.der.specs.Contents.{constructed as isConstructed, universalOk, contentsOf, elementOk}
-use Rattle.der.specs.Elements.{heldBy, joined, elementsOf, membersOf}
+use Rattle.der.specs.Elements.{heldBy, joined, elementsOf}
+use Rattle.der.specs.Workings.Walk.{membersOf}
 use Rattle.der.specs.Soundness.{faulty}
-use Rattle.der.specs.Walking.{Chain}
-use Rattle.der.specs.Walking.Chain.{done, next}
+use Rattle.der.proofs.Terms.Walking.{Chain}
+use Rattle.der.proofs.Terms.Walking.Chain.{done, next}
 use Rattle.der.specs.declared.header.Head.{Head}
 use Rattle.der.proofs.Laws.Header.{head-forward}
 use Rattle.der.proofs.Laws.Walking.{children-chain}

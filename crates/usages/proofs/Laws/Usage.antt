@@ -14,7 +14,8 @@ use native.Mathlib.Omega.{arith}
 use lib.ListN.{length}
 use lib.Dec.{ltb, eqb}
 use borrow.Author.Tests.{lt-ltb, le-ltb, ltb-true, ltb-false, ne-eqb, eqb-true, eqb-false}
-use Rattle.usages.specs.Usage.{bitOctets, bitAt, anyBelow, anySet, otherBit, oddAlone, otherBits, passingBelow, bitsIn}
+use Rattle.usages.specs.Usage.{bitOctets, bitAt, anyBelow, otherBit, otherBits, passingBelow, bitsIn}
+use Rattle.usages.specs.Workings.Usage.{anySet, oddAlone}
 use Rattle.profiles.specs.Judged.{isOneOf}
 use Rattle.octets.specs.Octets.{octetAt, octetsFrom}
 use Rattle.octets.proofs.Laws.Finite.{allBelow, all-below, same, same-true}

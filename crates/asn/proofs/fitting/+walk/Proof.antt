@@ -7,7 +7,7 @@ use borrow.Author.Needs.{needs}
 use borrow.Fn.Kinds.{In}
 use borrow.Fn.PlainCycle.{Measures, is, falls, and}
 use Rattle.asn.specs.Grammar.{follows}
-use Rattle.asn.specs.Table.{slotsAt}
+use Rattle.asn.specs.Workings.Table.{slotsAt}
 use Rattle.der.specs.Header.{childrenOf}
 use Rattle.asn.proofs.Laws.Steps.{First, first-inside, stands-not, stands, members-stand, members-not, all-stand}
 use Rattle.asn.proofs.fitting.+walk.{statement}

@@ -3,8 +3,8 @@ use mathlib.Core.Path.{_≡_, refl, sym, _∙_}
 use Prim.Native.Nat.{_-_, _<_}
 use native.Mathlib.Omega.{arith}
 use lib.ListN.{length}
-use Rattle.asn.specs.Choosing.{lacking}
-use Rattle.asn.specs.Table.{slotsAt}
+use Rattle.asn.specs.Workings.Choosing.{lacking}
+use Rattle.asn.specs.Workings.Table.{slotsAt}
 use Rattle.asn.proofs.Laws.Steps.{in-slots, nothing-lacks, one-lacks, lacks-next}
 use Rattle.asn.proofs.fitting.end_before.Statement.{statement}
 use Rattle.asn.proofs.fitting.end_before.Tie as tie

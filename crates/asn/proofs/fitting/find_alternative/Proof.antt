@@ -3,8 +3,8 @@ use mathlib.Core.Path.{_≡_, refl, sym, _∙_}
 use Prim.Native.Nat.{_-_, _<_}
 use native.Mathlib.Omega.{arith}
 use lib.ListN.{length}
-use Rattle.asn.specs.Choosing.{alternativeFor}
-use Rattle.asn.specs.Table.{formAt}
+use Rattle.asn.specs.Workings.Choosing.{alternativeFor}
+use Rattle.asn.specs.Workings.Table.{formAt}
 use Rattle.asn.proofs.Laws.Steps.{taken-here, taken-later, in-rows}
 use Rattle.asn.proofs.fitting.find_alternative.Statement.{statement}
 use Rattle.asn.proofs.fitting.find_alternative.Tie as tie

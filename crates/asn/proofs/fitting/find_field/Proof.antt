@@ -3,8 +3,8 @@ use mathlib.Core.Path.{_≡_, refl, sym, _∙_}
 use Prim.Native.Nat.{_-_, _<_}
 use native.Mathlib.Omega.{arith}
 use lib.ListN.{length}
-use Rattle.asn.specs.Choosing.{fieldFor}
-use Rattle.asn.specs.Table.{slotsAt}
+use Rattle.asn.specs.Workings.Choosing.{fieldFor}
+use Rattle.asn.specs.Workings.Table.{slotsAt}
 use Rattle.asn.proofs.Laws.Steps.{no-field, field-found, field-later, in-slots}
 use Rattle.asn.proofs.fitting.find_field.Statement.{statement}
 use Rattle.asn.proofs.fitting.find_field.Tie as tie

@@ -1,9 +1,9 @@
--- `asn::fitting::only_element` meets its contract: the tables are those that specs/Table.antt has. Assumes nothing.
+-- `asn::fitting::only_element` meets its contract: the tables are those that specs/Workings/Table.antt has. Assumes nothing.
 use mathlib.Core.Path.{_≡_, ap, _∙_}
 use borrow.Author.Needs.{needs}
 use Rattle.asn.specs.Grammar.{Slots, follows}
 use Rattle.asn.specs.Module.{valueOf}
-use Rattle.asn.specs.Table.{alone, slotsAt}
+use Rattle.asn.specs.Workings.Table.{alone, slotsAt}
 use Rattle.der.specs.Header.{childrenOf}
 use Rattle.asn.proofs.Laws.Tables.{rows, slots, roots, tables-right, roots-right, none-right}
 use Rattle.asn.proofs.Laws.Roots.{root-row}

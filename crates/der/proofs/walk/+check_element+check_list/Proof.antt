@@ -10,7 +10,7 @@ use borrow.Author.Tests.{not-false}
 use borrow.Author.Needs.{needs}
 use borrow.Fn.Kinds.{In}
 use borrow.Fn.PlainCycle.{Measures, is, falls, and}
-use Rattle.der.specs.Soundness.{soundList, andThen}
+use Rattle.der.specs.Workings.Walk.{soundList, andThen}
 use Rattle.der.specs.declared.walk.Soundness.{Soundness}
 use Rattle.octets.specs.Octets.{octetsFrom}
 use Rattle.der.proofs.Laws.Header.{head-forward}

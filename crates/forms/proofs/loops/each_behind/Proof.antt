@@ -2,7 +2,7 @@
 use Prim.Native.Nat.{_-_}
 use Rattle.forms.specs.Kinds.{ofKind}
 use Rattle.report.specs.Entries.{noted}
-use Rattle.report.specs.Forms.{isBehind}
+use Rattle.report.specs.Workings.Forms.{isBehind}
 use Rattle.der.proofs.Laws.Searching.{nearer}
 use Rattle.report.proofs.Laws.Loops.{Turn, turn-start, turn-next, turn-end, each-gathered}
 use Rattle.forms.proofs.loops.each_behind.Statement.{statement}

@@ -4,7 +4,7 @@ use Rattle.forms.specs.Kinds.{ofKind}
 use Rattle.forms.specs.Lists.{holderIn, itemsWithin}
 use Rattle.forms.proofs.Laws.Lists.{nested-joined}
 use Rattle.der.specs.Members.{membersIn}
-use Rattle.report.specs.Forms.{each, isBehind}
+use Rattle.report.specs.Workings.Forms.{each, isBehind}
 use Rattle.der.proofs.Laws.Searching.{nearer}
 use Rattle.report.proofs.Laws.Loops.{Turn, turn-start, turn-next, turn-end}
 use Rattle.forms.proofs.loops.each_within_behind.Statement.{statement}

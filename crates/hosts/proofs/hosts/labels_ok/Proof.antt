@@ -9,9 +9,8 @@ use lib.ListN.{length}
 use lib.Dec.{leb, eqb}
 use borrow.Author.Tests.{not-true, not-false}
 use Rattle.hosts.specs.Hosts.{labelsOf, labelsOk}
-use Rattle.hosts.specs.Scanning.{scanned}
+use Rattle.hosts.proofs.Laws.Hosts.{scanned, scan-labels, scan-done, scan-bad, scan-next, size-grows}
 use Rattle.octets.specs.Octets.{octetsFrom}
-use Rattle.hosts.proofs.Laws.Hosts.{scan-labels, scan-done, scan-bad, scan-next, size-grows}
 use Rattle.hosts.proofs.hosts.labels_ok.Statement.{statement}
 use Rattle.hosts.proofs.hosts.labels_ok.Tie as tie
 

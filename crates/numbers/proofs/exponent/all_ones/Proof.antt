@@ -3,7 +3,7 @@ use mathlib.Core.Path.{_≡_, refl, sym, _∙_}
 use Prim.Native.Nat.{_-_}
 use native.Mathlib.Omega.{arith}
 use borrow.Author.Needs.{needs}
-use Rattle.numbers.specs.Leading.{allOnes}
+use Rattle.numbers.specs.Workings.Leading.{allOnes}
 use Rattle.octets.specs.Octets.{octetsFrom}
 use Rattle.numbers.proofs.Laws.Exponent.{ones-more, ones-less, ones-done}
 use Rattle.numbers.proofs.exponent.all_ones.Statement.{statement}

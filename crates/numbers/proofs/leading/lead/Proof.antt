@@ -3,7 +3,7 @@ use mathlib.Core.Path.{_≡_, refl, sym, _∙_}
 use Prim.Native.Nat.{_-_}
 use native.Mathlib.Omega.{arith}
 use borrow.Author.Needs.{needs}
-use Rattle.numbers.specs.Leading.{leadOf}
+use Rattle.numbers.specs.Workings.Leading.{leadOf}
 use Rattle.numbers.proofs.Laws.Leading.{lead-done, lead-step, lead-stop}
 use Rattle.numbers.proofs.leading.lead.Statement.{statement}
 use Rattle.numbers.proofs.leading.lead.Tie as tie

@@ -4,7 +4,8 @@ use Prim.Native.Nat.{_+_, _-_}
 use native.Mathlib.Nat.{add-zero, sub-zero}
 use native.Mathlib.Omega.{arith}
 use Rattle.octets.specs.Octets.{octetsFrom}
-use Rattle.octets.specs.Same.{sameBy, foldOf}
+use Rattle.octets.specs.Same.{sameBy}
+use Rattle.octets.specs.Workings.Same.{foldOf}
 use Rattle.octets.proofs.Laws.Same.{same-done, same-next, same-apart}
 use Rattle.octets.proofs.comparing.same_by.Statement.{statement}
 use Rattle.octets.proofs.comparing.same_by.Tie as tie

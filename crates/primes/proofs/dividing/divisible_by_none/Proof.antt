@@ -1,7 +1,7 @@
 -- `primes::dividing::divisible_by_none` meets its contract. Assumes nothing.
 use mathlib.Core.Path.{refl}
 use borrow.Author.Needs.{needs}
-use Rattle.primes.specs.Rows.{rowsOk}
+use Rattle.primes.specs.Workings.Rows.{rowsOk}
 use Rattle.primes.proofs.Laws.Primes.{table-right}
 use Rattle.primes.proofs.dividing.divisible_by_none.Statement.{statement}
 use Rattle.primes.proofs.dividing.divisible_by_none.Tie as tie

@@ -2,7 +2,7 @@
 use mathlib.Core.Path.{_≡_, refl, sym, _∙_}
 use Prim.Native.Nat.{_+_, _-_}
 use native.Mathlib.Omega.{arith}
-use Rattle.usages.specs.Usage.{anySet}
+use Rattle.usages.specs.Workings.Usage.{anySet}
 use Rattle.octets.specs.Octets.{octetsFrom}
 use Rattle.usages.proofs.Laws.Usage.{bits-done, bits-here, bits-later}
 use Rattle.usages.proofs.usage.any_later.Statement.{statement}

@@ -1,4 +1,5 @@
 -- The types and the runs of fields that the tables' rows stand for, counted from 0.
+-- How the code goes about it: named by contracts of functions that no other crate can call, and by nothing else of `specs/`.
 use mathlib.Core.Bool.{cond}
 use mathlib.Core.Path.{_≡_}
 use mathlib.Core.List.{List, [], _∷_, _++_}
@@ -9,9 +10,9 @@ use Rattle.asn.specs.Grammar.{Test, Form, Inside, Slots}
 use Rattle.asn.specs.Grammar.Form.{none, alt}
 use Rattle.asn.specs.Grammar.Inside.{leaf, parts, set}
 use Rattle.asn.specs.Grammar.Slots.{done, one, opt, many}
-use Rattle.asn.specs.Choosing.{Alternative, Field}
-use Rattle.asn.specs.Choosing.Alternative.{nobody, holding}
-use Rattle.asn.specs.Choosing.Field.{nowhere, here}
+use Rattle.asn.specs.Workings.Choosing.{Alternative, Field}
+use Rattle.asn.specs.Workings.Choosing.Alternative.{nobody, holding}
+use Rattle.asn.specs.Workings.Choosing.Field.{nowhere, here}
 use Rattle.asn.specs.declared.fitting.Found.{Found}
 use Rattle.asn.specs.Module.{any, booleanTrue, integer, natural, bitString, namedBits, octetString, objectIdentifier, sequenceOf, implicit}
 use Rattle.asn.specs.Module.{explicit, free, algorithmIdentifier, attributeTypeAndValue, relativeDistinguishedName, name, time}

@@ -10,7 +10,7 @@ use Rattle.certificate.specs.Extensions.{slotOf, extensionOf}
 use Rattle.certificate.specs.declared.slots.Slot.{Slot}
 use Rattle.asn.specs.Grammar.{fits}
 use Rattle.asn.specs.Module.{booleanTrue, bitString, octetString, objectIdentifier, extensions, valueOf}
-use Rattle.asn.specs.Fields.{Optional, Outermost, TbsFields}
+use Rattle.asn.proofs.Terms.Fields.{Optional, Outermost, TbsFields}
 use Rattle.asn.specs.declared.fitting.Verdict.the-variants.{Fits}
 use Rattle.der.specs.Header.{childrenOf}
 use Rattle.der.specs.Contents.{contentsOf}

@@ -1,4 +1,5 @@
 -- What the program knows of the sides that it wrote. No contract can say which octets a call of the system takes.
+-- How the code goes about it: named by contracts of functions that no other crate can call, and by nothing else of `specs/`.
 use mathlib.Core.List.{List}
 use mathlib.Core.Path.{_≡_}
 use Prim.Native.Nat.{ℕ}

@@ -1,5 +1,6 @@
 -- Which alternative of a type, and which field of a list, takes an element: its identifier octet alone says so. The interpreter goes by them;
 -- `proofs/Laws/Choosing.antt` proves that this comes to what `Grammar` says.
+-- How the code goes about it: named by contracts of functions that no other crate can call, and by nothing else of `specs/`.
 use mathlib.Core.Bool.{Bool, true, false, cond}
 use mathlib.Core.List.{List}
 use Prim.Native.Nat.{ℕ}

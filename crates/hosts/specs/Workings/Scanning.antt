@@ -1,7 +1,6 @@
--- A host name's labels judged in one pass: of the label so far only its size and its last octet are kept. For the proofs alone: no contract
--- of a public function names it.
-use mathlib.Core.List.{List, [], _∷_}
-use mathlib.Core.Bool.{Bool, cond, not, _&&_, _||_}
+-- A host name's labels judged in one pass: of the label so far only its size and its last octet are kept.
+-- How the code goes about it: named by contracts of functions that no other crate can call, and by nothing else of `specs/`.
+use mathlib.Core.Bool.{Bool, cond, not, _&&_}
 use Prim.Native.Nat.{ℕ, _+_}
 use lib.Dec.{ltb, eqb}
 use Rattle.hosts.specs.Hosts.{labelOctet}
@@ -20,8 +19,3 @@ mayFollow size last b = cond (eqb b 46) (mayEnd size last) (mayGrow size b)
 
 abbrev pub sizeAfter : ℕ → ℕ → ℕ
 sizeAfter size b = cond (eqb b 46) 0 (size + 1)
-
--- dotted says whether a dot was met
-unfoldable pub scanned : ℕ → ℕ → Bool → List ℕ → Bool
-scanned size last dotted [] = dotted && mayEnd size last
-scanned size last dotted (b ∷ bs) = mayFollow size last b && scanned (sizeAfter size b) b (dotted || eqb b 46) bs

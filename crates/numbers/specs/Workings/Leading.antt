@@ -1,4 +1,5 @@
 -- Octets that the tests look at: the first that is not 0, and those that are all FF.
+-- How the code goes about it: named by contracts of functions that no other crate can call, and by nothing else of `specs/`.
 use mathlib.Core.List.{List, [], _∷_}
 use mathlib.Core.Bool.{Bool, true, cond, _&&_}
 use Prim.Native.Nat.{ℕ, zero, suc, _+_, _-_}

@@ -1,0 +1,3 @@
+-- What the laws speak of, and no contract does, by file.
+pub mod Inside
+pub mod Named

@@ -1,0 +1,2 @@
+-- What the laws speak of, and no contract does, by file.
+pub mod Walking
