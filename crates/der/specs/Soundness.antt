@@ -5,6 +5,7 @@ use Prim.Native.Nat.{ℕ}
 use lib.ListN.{length}
 use lib.Dec.{eqb}
 use Rattle.refusals.specs.Table.{notSoundDer, setOutOfOrder}
+use Rattle.der.specs.Tags.{setTag}
 use Rattle.der.specs.Header.{headOf, childrenOf}
 use Rattle.der.specs.Contents.{elementOk}
 use Rattle.der.specs.Order.{ascending, octetsOf}
@@ -17,9 +18,8 @@ use Rattle.der.specs.declared.walk.Soundness.the-variants.{Sound, Unsoun
 abbrev pub faulty : List ℕ → Node → Bool
 faulty s n = eqb (n .levels) 0 || not (elementOk s (n .head))
 
--- SET, 31 hex
 abbrev pub isSet : Head → Bool
-isSet h = eqb (h .tag) 49
+isSet h = eqb (h .tag) setTag
 
 -- a SET whose members do not ascend
 abbrev pub unordered : List ℕ → Node → Bool
