@@ -9,6 +9,7 @@ use Rattle.octets.specs.Octets.{octetAt}
 use Rattle.der.specs.Header.{headOf, childrenOf}
 use Rattle.der.specs.Elements.{heldBy}
 use Rattle.der.specs.Soundness.{stretchSoundness}
+use Rattle.der.specs.Tags.{sequenceTag}
 use Rattle.der.specs.declared.header.Head.{Head}
 use Rattle.der.specs.declared.walk.Soundness.the-variants.{Sound}
 use Rattle.certificate.specs.Fields.{certificateOf}
@@ -49,7 +50,7 @@ pub data Element (s : List ℕ) : Head → Type 0 where
   in-value : {x v : Head} → In x (extensionsOf s) → v ≡ extensionOf s x .value → Fills s (v .body) (v .end)
       → Element s (headOf s (v .body) (v .end))
   -- the bits b are "exactly a sound SEQUENCE"
-  in-bits : {b : Head} → RsaBits s b → Fills s (bitsStart b) (b .end) → headOf s (bitsStart b) (b .end) .tag ≡ 0x30
+  in-bits : {b : Head} → RsaBits s b → Fills s (bitsStart b) (b .end) → headOf s (bitsStart b) (b .end) .tag ≡ sequenceTag
       → Element s (headOf s (bitsStart b) (b .end))
 
 -- every element of a list

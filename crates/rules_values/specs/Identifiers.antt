@@ -7,15 +7,16 @@ use lib.Dec.{ltb, eqb}
 use Rattle.octets.specs.Same.{sameBy, exactly}
 use Rattle.der.specs.Contents.{contentsOf}
 use Rattle.der.specs.Members.{firstIn}
+use Rattle.der.specs.Tags.{contextTag}
 use Rattle.der.specs.declared.header.Head.{Head}
 use Rattle.certificate.specs.Issuer.{KeyIdentifier}
 use Rattle.certificate.specs.declared.slots.Slot.{Slot}
 use Rattle.forms.specs.Values.{whereGood}
 use Rattle.report.specs.Rows.{Row, _⦂_, brokenAt}
 
--- AuthorityKeyIdentifier ::= SEQUENCE { keyIdentifier [0] KeyIdentifier OPTIONAL, .. }: the first member, if its tag is [0], 80 hex
+-- AuthorityKeyIdentifier ::= SEQUENCE { keyIdentifier [0] KeyIdentifier OPTIONAL, .. }: the first member, if its tag is [0]
 abbrev pub authorityKey : List ℕ → Head → KeyIdentifier
-authorityKey s v = cond (eqb (firstIn s v .tag) 0x80) (KeyIdentifier.some (contentsOf s (firstIn s v))) KeyIdentifier.none
+authorityKey s v = cond (eqb (firstIn s v .tag) (contextTag 0)) (KeyIdentifier.some (contentsOf s (firstIn s v))) KeyIdentifier.none
 
 -- both are there, and are the same octets
 abbrev pub sameKey : KeyIdentifier → KeyIdentifier → Bool
