@@ -4,7 +4,6 @@ use mathlib.Core.Bool.{Bool, true, false, cond, not, _&&_, _||_}
 use Prim.Native.Nat.{ℕ}
 use lib.ListN.{length}
 use lib.Dec.{eqb}
-use Rattle.refusals.specs.Table.{notSoundDer, setOutOfOrder}
 use Rattle.der.specs.Tags.{setTag}
 use Rattle.der.specs.Header.{headOf, childrenOf}
 use Rattle.der.specs.Contents.{elementOk}
@@ -13,6 +12,7 @@ use Rattle.der.specs.Elements.{Node, heldBy, elementsOf, membersOf}
 use Rattle.der.specs.declared.header.Head.{Head}
 use Rattle.der.specs.declared.walk.Soundness.{Soundness}
 use Rattle.der.specs.declared.walk.Soundness.the-variants.{Sound, Unsound, Unordered}
+use Rattle.refusals.specs.Table.{notSoundDer, setOutOfOrder}
 
 -- "its depth is over 16", its header is not sound, "or its universal type is broken"
 abbrev pub faulty : List ℕ → Node → Bool

@@ -41,9 +41,10 @@ use Rattle.reader.specs.Stepping.{lintedRoom, itemAt, roomAt}
 
 pub examples : map (λ (e : Example). answer (e .asked)) table ≡ map (λ (e : Example). e .answered) table
 unfolding answer table yearOf validityBreaks brokenRules validityRows usageRows brokenAt stretchSoundness soundness first elementsOf
-    elementOk primitiveOk arcsOk ascendFrom octetsLe headOf childrenOf childrenBy octetsFrom numberFrom integerOf timeOf ifReal dateAt digitsAndZ areDigits dateOk momentOf secondsOf daysOf beforeYear
-    beforeMonth certificateVerdict valueOk fits certificate keyUsage judged valueOf isBelow otherBits anyBelow p12Deck askedOf _and_ between checkOf
-    sound blockOf certificateOctets issuerOctets zeroFilled blocksOf blocks isPart isWhole run starts recordFrom lossOf foundAt lintedRoom itemAt
-    roomAt admissionOf sideJudgement bothSides judgementOf answerOf roomOf oid subidentifiers subidentifier sevens printed listingOf recordLines
-    recordLine refusalText findingLines lostLine totalLine word decimal digitsBy tallyOf events
+    elementOk primitiveOk arcsOk ascendFrom octetsLe headOf childrenOf childrenBy octetsFrom numberFrom integerOf timeOf ifReal dateAt
+    digitsAndZ areDigits dateOk momentOf secondsOf daysOf beforeYear beforeMonth certificateVerdict valueOk fits certificate keyUsage judged
+    valueOf isBelow otherBits anyBelow p12Deck askedOf _and_ between checkOf sound blockOf certificateOctets issuerOctets zeroFilled blocksOf
+    blocks isPart isWhole run starts recordFrom lossOf foundAt lintedRoom itemAt roomAt admissionOf sideJudgement bothSides judgementOf answerOf
+    roomOf oid subidentifiers subidentifier sevens printed listingOf recordLines recordLine refusalText findingLines lostLine totalLine word
+    decimal digitsBy tallyOf events
 examples = refl

@@ -5,6 +5,7 @@ use mathlib.Core.Bool.{true}
 use mathlib.Core.List.{List}
 use Prim.Native.Nat.{ℕ, _+_}
 use lib.ListN.{length}
+use Rattle.facts.specs.Kinds.{isRsa}
 use Rattle.octets.specs.Octets.{octetAt}
 use Rattle.der.specs.Header.{headOf, childrenOf}
 use Rattle.der.specs.Elements.{heldBy}
@@ -17,7 +18,6 @@ use Rattle.certificate.specs.Key.{keyOf}
 use Rattle.certificate.specs.Extensions.{extensionOf}
 use Rattle.certificate.specs.declared.key.Key.{Key}
 use Rattle.report.specs.Order.{In}
-use Rattle.facts.specs.Kinds.{isRsa}
 
 -- one element fills the octets from place at to end, and is sound with all that it holds, depths counted from 1
 abbrev pub Fills : List ℕ → ℕ → ℕ → Type 0

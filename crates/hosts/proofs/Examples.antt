@@ -4,8 +4,8 @@ use mathlib.Core.List.{List, [], _∷_, _++_, map}
 use mathlib.Core.Bool.{true, false}
 use Prim.Native.Nat.{ℕ, zero, suc}
 use Prim.Native.Char.{code}
-use Rattle.texts.specs.Texts.{word}
 use Rattle.hosts.specs.Hosts.{labelOctets, labelsFrom, labelsOk, hostOf, isPlain}
+use Rattle.texts.specs.Texts.{word}
 
 abbrev exes : ℕ → List ℕ
 exes zero = []

@@ -3,9 +3,9 @@ use mathlib.Core.Bool.{Bool, cond, _&&_}
 use mathlib.Core.List.{List, [], _∷_}
 use Prim.Native.Nat.{ℕ, _+_, _*_}
 use lib.Dec.{leb}
-use Rattle.octets.specs.Characters.{isDigit, areDigits, digitOf}
 use Rattle.texts.specs.declared.numerals.Numeral.{Numeral}
 use Rattle.texts.specs.declared.numerals.Numeral.the-variants.{Number, Other}
+use Rattle.octets.specs.Characters.{isDigit, areDigits, digitOf}
 
 -- the number that digits say, written on behind n
 unfoldable pub valueFrom : ℕ → List ℕ → ℕ

@@ -52,10 +52,8 @@ fn digits_and_z(s: &[u8], body: usize, n: usize, digits: u8) -> bool
 
 // The number that the two digits at place k say: a digit's is its low four bits. So is another octet's, of which nothing is promised.
 fn two_at(s: &[u8], body: usize, n: usize, k: u16) -> u8
-    ensures {
-        λ r. let contents : List ℕ = octetsFrom (now (s .entry)) body n in
-        ⌜ (isDigit (octetAt contents k) ≡ true → isDigit (octetAt contents (k + 1)) ≡ true → r ≡ twoAt k contents) × (r < 166) ⌝
-    }
+    ensures { λ r. let contents : List ℕ = octetsFrom (now (s .entry)) body n in
+        ⌜ (isDigit (octetAt contents k) ≡ true → isDigit (octetAt contents (k + 1)) ≡ true → r ≡ twoAt k contents) × (r < 166) ⌝ }
 {
     let place = k as usize;
     10 * (content(s, body, n, place) % 16) + content(s, body, n, place + 1) % 16
@@ -63,9 +61,7 @@ fn two_at(s: &[u8], body: usize, n: usize, k: u16) -> u8
 
 // The date with this year whose month stands at place k, if the contents up to its end are digits.
 fn date_at(s: &[u8], body: usize, n: usize, k: u8, year: u16) -> Date
-    ensures {
-        λ r. let contents : List ℕ = octetsFrom (now (s .entry)) body n in ⌜ (digitsFirst (k + 10) contents ≡ true → r ≡ dateAt k year contents) ⌝
-    }
+    ensures { λ r. let contents : List ℕ = octetsFrom (now (s .entry)) body n in ⌜ (digitsFirst (k + 10) contents ≡ true → r ≡ dateAt k year contents) ⌝ }
 {
     let first = k as u16;
     Date {
@@ -89,17 +85,13 @@ fn full_year(year: u8) -> u16
 }
 
 fn utc_date(s: &[u8], body: usize, n: usize) -> Date
-    ensures {
-        λ r. let contents : List ℕ = octetsFrom (now (s .entry)) body n in ⌜ (digitsFirst 12 contents ≡ true → r ≡ utcDate contents) ⌝
-    }
+    ensures { λ r. let contents : List ℕ = octetsFrom (now (s .entry)) body n in ⌜ (digitsFirst 12 contents ≡ true → r ≡ utcDate contents) ⌝ }
 {
     date_at(s, body, n, 2, full_year(two_at(s, body, n, 0)))
 }
 
 fn general_date(s: &[u8], body: usize, n: usize) -> Date
-    ensures {
-        λ r. let contents : List ℕ = octetsFrom (now (s .entry)) body n in ⌜ (digitsFirst 14 contents ≡ true → r ≡ generalDate contents) ⌝
-    }
+    ensures { λ r. let contents : List ℕ = octetsFrom (now (s .entry)) body n in ⌜ (digitsFirst 14 contents ≡ true → r ≡ generalDate contents) ⌝ }
 {
     let century = two_at(s, body, n, 0) as u16;
     date_at(s, body, n, 4, 100 * century + two_at(s, body, n, 2) as u16)

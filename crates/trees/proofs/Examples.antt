@@ -23,8 +23,8 @@ unfolding treeExamples word encode element lengthOctets numberBy typeNumber cont
 encoded = refl
 
 pub parsed : map (λ (e : TreeExample). parse (e .octets)) treeExamples ≡ map (λ (e : TreeExample). e .tree) treeExamples
-unfolding treeExamples word parse treeOf treesOf headOf childrenOf childrenBy octetsFrom numberFrom numberBy typeNumber contents integerOctets bitStringOctets packed
-    unused oid subidentifiers subidentifier sevens
+unfolding treeExamples word parse treeOf treesOf headOf childrenOf childrenBy octetsFrom numberFrom numberBy typeNumber contents integerOctets bitStringOctets
+    packed unused oid subidentifiers subidentifier sevens
 parsed = refl
 
 pub judged : map (λ (e : TreeExample). derSoundness (e .octets)) treeExamples ≡ map (λ (e : TreeExample). Sound) treeExamples

@@ -4,10 +4,10 @@ use mathlib.Core.Bool.{Bool, true}
 use Prim.Native.Nat.{ℕ, _/_, _%_}
 use lib.Dec.{eqb}
 use lib.IntN.{pos, negsuc}
-use Rattle.texts.specs.Texts.{word}
-use Rattle.der.specs.Tags.{sequenceNumber, ia5StringTag, visibleStringTag}
 use Rattle.trees.specs.Values.{Value, boolean, integer, bitString, null, identifier, typeNumber, contents}
 use Rattle.trees.specs.Trees.{Class, universal, application, contextSpecific, Tag, Tree, primitive, constructed, nothing, _then_}
+use Rattle.texts.specs.Texts.{word}
+use Rattle.der.specs.Tags.{sequenceNumber, ia5StringTag, visibleStringTag}
 
 pub record TreeExample : Type 0 where
   pub tree : Tree

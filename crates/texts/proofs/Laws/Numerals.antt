@@ -9,17 +9,17 @@
 use mathlib.Core.Path.{_≡_, refl, sym}
 use mathlib.Core.List.{List, [], _∷_}
 use mathlib.Core.Bool.{Bool, true, false, cond, _&&_}
-use Prim.Native.Nat.{ℕ, suc, _+_, _-_, _*_, _≤_, _<_}
+use Prim.Native.Nat.{ℕ, suc, _+_, _*_, _≤_, _<_}
 use native.Mathlib.Numerals.{add-one}
 use native.Mathlib.Omega.{arith}
 use lib.Dec.{leb}
 use lib.ListN.{length, getD, drop, drop-of-length-le}
 use lib.Seq.{drop-cons}
 use borrow.Author.Tests.{le-leb, lt-leb, leb-true, leb-false}
-use Rattle.octets.proofs.Laws.Tests.{and-l}
-use Rattle.octets.specs.Characters.{isDigit, areDigits, digitOf}
 use Rattle.texts.specs.Numerals.{valueFrom, largestNumber, upTo, decimalFrom, decimalOf, appended}
 use Rattle.texts.specs.declared.numerals.Numeral.the-variants.{Number, Other}
+use Rattle.octets.proofs.Laws.Tests.{and-l}
+use Rattle.octets.specs.Characters.{isDigit, areDigits, digitOf}
 
 -- a number is told apart from none
 apart : (m : ℕ) → Number m ≡ Other → ⊥

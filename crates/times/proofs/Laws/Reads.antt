@@ -9,9 +9,9 @@ use mathlib.Core.Path.{_≡_, refl, ap}
 use mathlib.Core.List.{List, [], _∷_}
 use mathlib.Core.Bool.{Bool, true, false, cond, _&&_}
 use Prim.Native.Nat.{ℕ, zero, suc, _+_, _-_, _*_, _%_, _≤_, _<_}
+use Prim.Native.Char.{code}
 use native.Mathlib.Nat.{zero-add}
 use native.Mathlib.Omega.{arith}
-use Prim.Native.Char.{code}
 use lib.Dec.{leb, eqb}
 use lib.ListN.{length}
 use borrow.Author.Tests.{leb-true}
@@ -80,7 +80,8 @@ unfolding ifReal
 real-if true t u same = ap (λ (v : Time). ifReal true v) (same refl)
 real-if false t u same = refl
 
-pub written-law : (digits : ℕ) (c : List ℕ) (t u : Time) → (digitsFirst digits c ≡ true → t ≡ u) → ifReal (digitsAndZ digits c) t ≡ ifReal (digitsAndZ digits c) u
+pub written-law : (digits : ℕ) (c : List ℕ) (t u : Time) → (digitsFirst digits c ≡ true → t ≡ u)
+    → ifReal (digitsAndZ digits c) t ≡ ifReal (digitsAndZ digits c) u
 unfolding digitsAndZ
 written-law digits c t u same =
     let z = eqb (octetAt c digits) (code "Z") in

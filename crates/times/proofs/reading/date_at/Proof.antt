@@ -3,8 +3,8 @@ use mathlib.Core.List.{List}
 use Prim.Native.Nat.{ℕ, _+_}
 use native.Mathlib.Omega.{arith}
 use borrow.Author.Needs.{needs}
-use Rattle.octets.specs.Octets.{octetsFrom}
 use Rattle.times.specs.Reads.{dateAt}
+use Rattle.octets.specs.Octets.{octetsFrom}
 use Rattle.times.proofs.Laws.Reads.{digit-at}
 use Rattle.times.proofs.reading.date_at.Statement.{statement}
 use Rattle.times.proofs.reading.date_at.Tie as tie

@@ -5,8 +5,8 @@ use native.Mathlib.Nat.{sub-zero}
 use native.Mathlib.Omega.{arith}
 use borrow.Author.Needs.{needs}
 use borrow.Author.Tests.{not-true, not-false}
-use Rattle.octets.specs.Characters.{areDigits}
 use Rattle.times.specs.Reads.{digitsFirst}
+use Rattle.octets.specs.Characters.{areDigits}
 use Rattle.octets.specs.Octets.{octetsFrom}
 use Rattle.times.proofs.Laws.Reads.{digits-good, digits-bad, digits-done}
 use Rattle.times.proofs.reading.digits_first.Statement.{statement}

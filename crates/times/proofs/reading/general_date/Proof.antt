@@ -3,9 +3,9 @@ use mathlib.Core.Path.{ap₂, _∙_}
 use mathlib.Core.List.{List}
 use Prim.Native.Nat.{ℕ, _+_, _*_}
 use native.Mathlib.Omega.{arith}
-use Rattle.octets.specs.Octets.{octetsFrom}
-use Rattle.times.specs.Reads.{dateAt}
 use borrow.Author.Needs.{needs}
+use Rattle.times.specs.Reads.{dateAt}
+use Rattle.octets.specs.Octets.{octetsFrom}
 use Rattle.times.proofs.Laws.Reads.{digit-at}
 use Rattle.times.proofs.reading.general_date.Statement.{statement}
 use Rattle.times.proofs.reading.general_date.Tie as tie

@@ -1,9 +1,9 @@
 -- `times::reading::read_time` meets its contract. Assumes nothing.
 use mathlib.Core.Path.{ap}
 use borrow.Author.Tests.{ne-eqb}
-use Rattle.octets.specs.Octets.{octetsFrom}
 use Rattle.times.specs.Reads.{utcDate, generalDate, timeOf}
 use Rattle.times.specs.declared.validity.Time.the-variants.{Utc, General}
+use Rattle.octets.specs.Octets.{octetsFrom}
 use Rattle.times.proofs.Laws.Reads.{written-law}
 use Rattle.times.proofs.reading.read_time.Statement.{statement}
 use Rattle.times.proofs.reading.read_time.Tie as tie

@@ -3,8 +3,8 @@ use mathlib.Core.Path.{ap, _∙_}
 use mathlib.Core.List.{List}
 use Prim.Native.Nat.{ℕ}
 use native.Mathlib.Omega.{arith}
-use Rattle.octets.specs.Octets.{octetsFrom}
 use Rattle.times.specs.Reads.{dateAt, fullYear}
+use Rattle.octets.specs.Octets.{octetsFrom}
 use Rattle.times.proofs.Laws.Reads.{digit-at}
 use Rattle.times.proofs.reading.utc_date.Statement.{statement}
 use Rattle.times.proofs.reading.utc_date.Tie as tie
