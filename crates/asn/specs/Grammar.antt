@@ -11,6 +11,7 @@ use Rattle.times.specs.declared.reading.Reading.the-variants.{Is, Bad}
 use Rattle.der.specs.Header.{childrenOf}
 use Rattle.der.specs.Contents.{integerOk, lastOf, bitsOk, nullOk, oidOk, contentsOf}
 use Rattle.der.specs.Order.{ascending, octetsOf}
+use Rattle.der.specs.Tags.{utcTimeTag, generalizedTimeTag, setTag, applicationClass}
 use Rattle.der.specs.declared.header.Head.{Head}
 
 -- tests of contents that are no list of elements
@@ -69,23 +70,23 @@ isReal Bad = false
 
 -- A universal type that bears its own tag was judged with all of DER (refusal 4): the first four tests are for implicit tags.
 abbrev pub passes : Test → ℕ → List ℕ → Bool
-passes integer tag c = ltb tag 64 || integerOk c
-passes oid tag c = ltb tag 64 || oidOk c
-passes bits tag c = ltb tag 64 || bitsOk c
-passes nothing tag c = ltb tag 64 || nullOk c
+passes integer tag c = ltb tag applicationClass || integerOk c
+passes oid tag c = ltb tag applicationClass || oidOk c
+passes bits tag c = ltb tag applicationClass || bitsOk c
+passes nothing tag c = ltb tag applicationClass || nullOk c
 passes free tag c = true
 passes natural tag c = naturalOk c
 passes version tag c = versionOk c
 passes yes-octet tag c = trueOk c
 passes named-bits tag c = namedOk c
-passes utc tag c = isReal (timeOf 23 c)
-passes generalized tag c = isReal (timeOf 24 c)
+passes utc tag c = isReal (timeOf utcTimeTag c)
+passes generalized tag c = isReal (timeOf generalizedTimeTag c)
 
 -- ---- an element
 
--- The members of a SET ascend. A SET that bears its own tag, 31 hex, was judged with all of DER (refusal 5).
+-- The members of a SET ascend. A SET that bears its own tag was judged with all of DER (refusal 5).
 abbrev pub setInOrder : List ℕ → Head → Bool
-setInOrder s h = eqb (h .tag) 49 || ascending (map (octetsOf s) (childrenOf s (h .body) (h .end)))
+setInOrder s h = eqb (h .tag) setTag || ascending (map (octetsOf s) (childrenOf s (h .body) (h .end)))
 
 -- an identifier octet is the one wanted, or any will do
 abbrev pub takes : ℕ → ℕ → Bool

@@ -1,12 +1,14 @@
 -- RFC 5280's types, under the names and with the fields of its ASN.1 modules: appendix A.1, where tags are explicit, and A.2, where they are
 -- implicit. Read it beside them.
 use mathlib.Core.List.{List, [], _∷_}
-use Prim.Native.Nat.{ℕ, _+_}
+use Prim.Native.Nat.{ℕ}
 use lib.ListN.{getD}
 use Rattle.asn.specs.Grammar.{Test, Form, Slots}
 use Rattle.asn.specs.Grammar.Form.{none, alt}
 use Rattle.asn.specs.Grammar.Inside.{leaf, parts, set}
 use Rattle.asn.specs.Grammar.Slots.{done, one, opt, many}
+use Rattle.der.specs.Tags.{booleanTag, integerTag, bitStringTag, octetStringTag, nullTag, objectIdentifierTag, ia5StringTag}
+use Rattle.der.specs.Tags.{utcTimeTag, generalizedTimeTag, sequenceTag, setTag, contextTag, contextHolder}
 
 -- ASN.1's own words
 
@@ -14,34 +16,34 @@ abbrev pub any : Form
 any = alt 0 (leaf Test.free) none
 
 abbrev pub booleanTrue : Form
-booleanTrue = alt 0x01 (leaf Test.yes-octet) none
+booleanTrue = alt booleanTag (leaf Test.yes-octet) none
 
 abbrev pub integer : Form
-integer = alt 0x02 (leaf Test.integer) none
+integer = alt integerTag (leaf Test.integer) none
 
 abbrev pub natural : Form
-natural = alt 0x02 (leaf Test.natural) none
+natural = alt integerTag (leaf Test.natural) none
 
 abbrev pub bitString : Form
-bitString = alt 0x03 (leaf Test.bits) none
+bitString = alt bitStringTag (leaf Test.bits) none
 
 abbrev pub namedBits : Form
-namedBits = alt 0x03 (leaf Test.named-bits) none
+namedBits = alt bitStringTag (leaf Test.named-bits) none
 
 abbrev pub octetString : Form
-octetString = alt 0x04 (leaf Test.free) none
+octetString = alt octetStringTag (leaf Test.free) none
 
 abbrev pub null : Form
-null = alt 0x05 (leaf Test.nothing) none
+null = alt nullTag (leaf Test.nothing) none
 
 abbrev pub objectIdentifier : Form
-objectIdentifier = alt 0x06 (leaf Test.oid) none
+objectIdentifier = alt objectIdentifierTag (leaf Test.oid) none
 
 abbrev pub ia5String : Form
-ia5String = alt 0x16 (leaf Test.free) none
+ia5String = alt ia5StringTag (leaf Test.free) none
 
 abbrev pub sequence : Slots → Form
-sequence p = alt 0x30 (parts p) none
+sequence p = alt sequenceTag (parts p) none
 
 -- SIZE (1..MAX)
 abbrev pub some : Form → Slots
@@ -51,25 +53,25 @@ abbrev pub sequenceOf : Form → Form
 sequenceOf f = sequence (some f)
 
 abbrev pub setOf : Form → Form
-setOf f = alt 0x31 (set (some f)) none
+setOf f = alt setTag (set (some f)) none
 
--- [n] IMPLICIT of a type of one alternative: its identifier is 80 + n if it is primitive, A0 + n if not
+-- [n] IMPLICIT of a type of one alternative, primitive or constructed
 abbrev pub implicit : ℕ → Form → Form
 implicit n none = none
-implicit n (alt i (leaf t) f) = alt (0x80 + n) (leaf t) none
-implicit n (alt i (parts p) f) = alt (0xA0 + n) (parts p) none
-implicit n (alt i (set p) f) = alt (0xA0 + n) (set p) none
+implicit n (alt i (leaf t) f) = alt (contextTag n) (leaf t) none
+implicit n (alt i (parts p) f) = alt (contextHolder n) (parts p) none
+implicit n (alt i (set p) f) = alt (contextHolder n) (set p) none
 
 -- [n] EXPLICIT
 abbrev pub explicit : ℕ → Form → Form
-explicit n f = alt (0xA0 + n) (parts (one f done)) none
+explicit n f = alt (contextHolder n) (parts (one f done)) none
 
 -- a tag whose contents are free: primitive, constructed
 abbrev pub free : ℕ → Form
-free n = alt (0x80 + n) (leaf Test.free) none
+free n = alt (contextTag n) (leaf Test.free) none
 
 abbrev pub freeList : ℕ → Form
-freeList n = alt (0xA0 + n) (leaf Test.free) none
+freeList n = alt (contextHolder n) (leaf Test.free) none
 
 -- CHOICE
 abbrev pub either : Form → Form → Form
@@ -99,7 +101,7 @@ unfoldable pub name : Form
 name = sequence (many relativeDistinguishedName done)
 
 unfoldable pub time : Form
-time = choice (alt 0x17 (leaf Test.utc) none ∷ alt 0x18 (leaf Test.generalized) none ∷ [])
+time = choice (alt utcTimeTag (leaf Test.utc) none ∷ alt generalizedTimeTag (leaf Test.generalized) none ∷ [])
 
 unfoldable pub validity : Form
 validity = sequence (one time (one time done))
@@ -119,7 +121,7 @@ unfoldable pub extensions : Form
 extensions = sequenceOf extension
 
 unfoldable pub version : Form
-version = alt 0x02 (leaf Test.version) none
+version = alt integerTag (leaf Test.version) none
 
 unfoldable pub tbsCertificate : Form
 tbsCertificate =

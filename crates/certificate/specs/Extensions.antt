@@ -9,6 +9,7 @@ use Rattle.octets.specs.Same.{sameBy, exactly}
 use Rattle.der.specs.Header.{childrenOf}
 use Rattle.der.specs.Contents.{contentsOf}
 use Rattle.der.specs.Comparing.{firstIs, sameContents}
+use Rattle.der.specs.Tags.{booleanTag}
 use Rattle.der.specs.declared.header.Head.{Head}
 use Rattle.der.specs.Elements.{anyOf}
 use Rattle.der.specs.Oids.{oid}
@@ -24,8 +25,8 @@ unfoldable pub extensionOf : List ℕ → Head → Extension
 extensionOf s h =
     record {
       place = h;
-      critical = eqb (secondIn s h .tag) 1;
-      value = past 1 s (secondIn s h) (h .end);
+      critical = eqb (secondIn s h .tag) booleanTag;
+      value = past booleanTag s (secondIn s h) (h .end);
     }
 
 -- ---- the table

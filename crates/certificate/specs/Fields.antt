@@ -6,6 +6,7 @@ use lib.ListN.{length}
 use Rattle.certificate.specs.declared.fields.Certificate.{Certificate}
 use Rattle.der.specs.Header.{headOf}
 use Rattle.der.specs.Contents.{contentsOf}
+use Rattle.der.specs.Tags.{contextTag, contextHolder}
 use Rattle.der.specs.declared.header.Head.{Head}
 use Rattle.times.specs.Reads.{timeOf}
 use Rattle.times.specs.declared.validity.Time.{Time}
@@ -35,7 +36,7 @@ unfoldable pub versionIn : List ℕ → Head → Head
 versionIn s tbs = firstIn s tbs
 
 unfoldable pub serialIn : List ℕ → Head → Head
-serialIn s tbs = past 0xA0 s (versionIn s tbs) (tbs .end)
+serialIn s tbs = past (contextHolder 0) s (versionIn s tbs) (tbs .end)
 
 unfoldable pub innerIn : List ℕ → Head → Head
 innerIn s tbs = after s (serialIn s tbs) (tbs .end)
@@ -54,11 +55,11 @@ keyIn s tbs = after s (subjectIn s tbs) (tbs .end)
 
 -- what follows the key and the unique identifiers, "tags 81 and 82": the [3], if the certificate has extensions
 abbrev pub extendedAfter : List ℕ → Head → ℕ → Head
-extendedAfter s key end = past 0x82 s (past 0x81 s (after s key end) end) end
+extendedAfter s key end = past (contextTag 2) s (past (contextTag 1) s (after s key end) end) end
 
 -- the SEQUENCE OF Extension inside [3], or none at the end of the TBSCertificate
 unfoldable pub listAfter : List ℕ → Head → ℕ → Head
-listAfter s key end = insideTag 0xA3 s (extendedAfter s key end) end
+listAfter s key end = insideTag (contextHolder 3) s (extendedAfter s key end) end
 
 unfoldable pub extensionListIn : List ℕ → Head → Head
 extensionListIn s tbs = listAfter s (keyIn s tbs) (tbs .end)

@@ -4,15 +4,19 @@ use mathlib.Core.Bool.{Bool, true, false, cond, not, _&&_, _||_}
 use Prim.Native.Nat.{ℕ, _-_, _%_, _/_, _^_}
 use lib.Dec.{ltb, leb, eqb}
 use Rattle.der.specs.declared.header.Head.{Head}
+use Rattle.der.specs.Tags.{tagNumber, constructedBit, applicationClass, booleanTag, integerTag, bitStringTag, nullTag, objectIdentifierTag, enumeratedTag}
+use Rattle.der.specs.Tags.{externalNumber, embeddedPdvNumber, sequenceNumber, setNumber, characterStringNumber}
 use Rattle.octets.specs.Octets.{octetsFrom}
 
 -- bit 6 of the identifier octet (8.1.2.5)
 abbrev pub constructed : ℕ → Bool
-constructed tag = not (eqb (tag / 32 % 2) 0)
+constructed tag = not (eqb (tag / constructedBit % 2) 0)
 
--- the numbers of the universal types that hold elements: SEQUENCE 16, SET 17, EXTERNAL 8, EMBEDDED PDV 11, CHARACTER STRING 29
+-- the universal types that hold elements, by number
 abbrev pub holdsElements : ℕ → Bool
-holdsElements number = eqb number 8 || (eqb number 11 || (eqb number 16 || (eqb number 17 || eqb number 29)))
+holdsElements number =
+    eqb number externalNumber
+    || (eqb number embeddedPdvNumber || (eqb number sequenceNumber || (eqb number setNumber || eqb number characterStringNumber)))
 
 -- "one octet 00 or FF"
 abbrev pub booleanOk : List ℕ → Bool
@@ -52,15 +56,15 @@ abbrev pub oidOk : List ℕ → Bool
 oidOk [] = false
 oidOk (b ∷ bs) = arcsOk true (b ∷ bs)
 
--- What the universal type with this number asks of primitive contents: BOOLEAN 1, INTEGER 2, ENUMERATED 10, BIT STRING 3, NULL 5, OBJECT
--- IDENTIFIER 6; a type that holds elements has none, and "all others" are free.
+-- What the universal type with this number, which is a primitive element's tag, asks of primitive contents; a type that holds elements has none,
+-- and "all others" are free.
 unfoldable pub primitiveOk : ℕ → List ℕ → Bool
 primitiveOk number c =
-    cond (eqb number 1) (booleanOk c)
-    (cond (eqb number 2 || eqb number 10) (integerOk c)
-    (cond (eqb number 3) (bitsOk c)
-    (cond (eqb number 5) (nullOk c)
-    (cond (eqb number 6) (oidOk c) (not (holdsElements number))))))
+    cond (eqb number booleanTag) (booleanOk c)
+    (cond (eqb number integerTag || eqb number enumeratedTag) (integerOk c)
+    (cond (eqb number bitStringTag) (bitsOk c)
+    (cond (eqb number nullTag) (nullOk c)
+    (cond (eqb number objectIdentifierTag) (oidOk c) (not (holdsElements number))))))
 
 -- the contents of an element
 abbrev pub contentsOf : List ℕ → Head → List ℕ
@@ -68,8 +72,8 @@ contentsOf s h = octetsFrom s (h .body) (h .end - h .body)
 
 -- "SEQUENCE, SET and universal 8, 11 and 29 constructed, all others primitive", and what a primitive one asks of its contents
 abbrev pub universalOk : ℕ → List ℕ → Bool
-universalOk tag c = cond (constructed tag) (holdsElements (tag % 32)) (primitiveOk (tag % 32) c)
+universalOk tag c = cond (constructed tag) (holdsElements (tagNumber tag)) (primitiveOk (tagNumber tag) c)
 
--- An element's header is sound, and its universal type, if its tag is below 64, is kept.
+-- An element's header is sound, and what its type asks is kept, if that is universal.
 unfoldable pub elementOk : List ℕ → Head → Bool
-elementOk s h = h .sound && (leb 64 (h .tag) || universalOk (h .tag) (contentsOf s h))
+elementOk s h = h .sound && (leb applicationClass (h .tag) || universalOk (h .tag) (contentsOf s h))

@@ -1,16 +1,17 @@
 -- The header of an element (X.690, 8.1.2, 8.1.3 and 10.1), and the elements that stand one behind the other in a stretch of octets.
 use mathlib.Core.List.{List, [], _∷_}
 use mathlib.Core.Bool.{Bool, true, false, cond, not, _&&_, _||_}
-use Prim.Native.Nat.{ℕ, zero, suc, _+_, _-_, _%_}
+use Prim.Native.Nat.{ℕ, zero, suc, _+_, _-_}
 use lib.ListN.{length}
 use lib.Dec.{ltb, leb, eqb}
 use Rattle.der.specs.declared.header.Head.{Head}
+use Rattle.der.specs.Tags.{tagNumber, constructedBit}
 use Rattle.octets.specs.Octets.{octetAt, octetsFrom}
 use Rattle.octets.specs.Numbers.{numberOf}
 
 -- a tag number below 31, and not universal 0, primitive or constructed
 abbrev pub tagOk : ℕ → Bool
-tagOk t = not (eqb (t % 32) 31) && (not (eqb t 0) && not (eqb t 32))
+tagOk t = not (eqb (tagNumber t) 31) && (not (eqb t 0) && not (eqb t constructedBit))
 
 -- The first length octet is the length, if it is below 128 (8.1.3.4). Else it says how many octets follow that give the length, the high
 -- octet first: as many as it is above 128 (8.1.3.5).

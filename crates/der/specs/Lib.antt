@@ -1,4 +1,5 @@
 -- The definitions that the contracts cite, from X.690 and document 01's "Sound DER". Read them in this order.
+pub mod Tags
 pub mod Header
 pub mod Contents
 pub mod Integers

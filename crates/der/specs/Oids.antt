@@ -4,6 +4,7 @@ use mathlib.Core.Bool.{true, false}
 use Prim.Native.Nat.{ℕ, zero, suc, _+_, _*_, _%_, _/_}
 use lib.Dec.{eqb}
 use lib.ListN.{length}
+use Rattle.der.specs.Tags.{objectIdentifierTag, nullTag}
 
 -- the octets of a subidentifier before its last: seven bits each, bit 8 set, the fewest that say n, and then the octets `after` (8.19.2)
 unfoldable pub sevens : ℕ → ℕ → List ℕ → List ℕ
@@ -25,7 +26,11 @@ oid [] = []
 oid (x ∷ []) = []
 oid (x ∷ y ∷ arcs) = subidentifiers ((40 * x + y) ∷ arcs)
 
--- The whole element: tag 6, the length, and the contents. One octet says the length if it is below 128 (8.1.3.4), as of every identifier that a
+-- The whole element: tag, length, and contents. One octet says the length if it is below 128 (8.1.3.4), as of every identifier that a
 -- definition writes.
 abbrev pub oidElement : List ℕ → List ℕ
-oidElement arcs = 6 ∷ length (oid arcs) ∷ oid arcs
+oidElement arcs = objectIdentifierTag ∷ length (oid arcs) ∷ oid arcs
+
+-- NULL (8.8), which stands behind an identifier that takes no parameters: no contents
+abbrev pub nullElement : List ℕ
+nullElement = nullTag ∷ 0 ∷ []

@@ -5,6 +5,7 @@ use Prim.Native.Nat.{ℕ}
 use lib.ListN.{length}
 use lib.Dec.{eqb}
 use Rattle.refusals.specs.Table.{notSoundDer, setOutOfOrder}
+use Rattle.der.specs.Tags.{setTag}
 use Rattle.der.specs.Header.{headOf}
 use Rattle.der.specs.Contents.{elementOk}
 use Rattle.der.specs.Order.{ascending, octetsOf}
@@ -12,14 +13,14 @@ use Rattle.der.specs.Elements.{Node, heldBy, elementsOf}
 use Rattle.der.specs.declared.header.Head.{Head}
 use Rattle.der.specs.declared.walk.Soundness.{Soundness}
 use Rattle.der.specs.declared.walk.Soundness.the-variants.{Sound, Unsound, Unordered}
+use Rattle.refusals.specs.Table.{notSoundDer, setOutOfOrder}
 
 -- "its depth is over 16", its header is not sound, "or its universal type is broken"
 abbrev pub faulty : List ℕ → Node → Bool
 faulty s n = eqb (n .levels) 0 || not (elementOk s (n .head))
 
--- SET, 31 hex
 abbrev pub isSet : Head → Bool
-isSet h = eqb (h .tag) 49
+isSet h = eqb (h .tag) setTag
 
 -- a SET whose members do not ascend
 abbrev pub unordered : List ℕ → Node → Bool

@@ -4,6 +4,7 @@ use mathlib.Core.List.{map}
 use Rattle.examples.specs.Table.{Example, yearOf, brokenRules, validityBreaks, p12Deck, answer, table}
 use Rattle.octets.specs.Octets.{octetsFrom}
 use Rattle.octets.specs.Numbers.{numberFrom}
+use Rattle.octets.specs.Characters.{areDigits}
 use Rattle.der.specs.Header.{headOf, childrenOf, childrenBy}
 use Rattle.der.specs.Contents.{arcsOk, primitiveOk, elementOk}
 use Rattle.der.specs.Integers.{integerOf}
@@ -13,7 +14,7 @@ use Rattle.der.specs.Elements.{elementsOf}
 use Rattle.der.specs.Soundness.{first, soundness, stretchSoundness}
 use Rattle.times.specs.Calendar.{dateOk, secondsOf, daysOf, beforeYear, beforeMonth}
 use Rattle.times.specs.Validity.{momentOf}
-use Rattle.times.specs.Reads.{allDigits, digitsAndZ, dateAt, ifReal, timeOf}
+use Rattle.times.specs.Reads.{digitsAndZ, dateAt, ifReal, timeOf}
 use Rattle.asn.specs.Grammar.{fits}
 use Rattle.asn.specs.Module.{certificate, keyUsage, judged, valueOf}
 use Rattle.asn.specs.Answers.{certificateVerdict, valueOk}
@@ -41,9 +42,10 @@ use Rattle.reader.specs.Stepping.{lintedRoom, itemAt, roomAt}
 
 pub examples : map (λ (e : Example). answer (e .asked)) table ≡ map (λ (e : Example). e .answered) table
 unfolding answer table yearOf validityBreaks brokenRules validityRows usageRows brokenAt stretchSoundness soundness first elementsOf
-    elementOk primitiveOk arcsOk ascendFrom octetsLe headOf childrenOf childrenBy octetsFrom numberFrom integerOf timeOf ifReal dateAt digitsAndZ allDigits dateOk momentOf secondsOf daysOf beforeYear
-    beforeMonth certificateVerdict valueOk fits certificate keyUsage judged valueOf isBelow otherBits anyBelow isOneOf p12Deck askedOf _and_ between checkOf
-    sound blockOf certificateOctets issuerOctets zeroFilled blocksOf blocks isPart isWhole run starts recordFrom lossOf foundAt lintedRoom itemAt
-    roomAt admissionOf sideJudgement bothSides judgementOf answerOf roomOf oid subidentifiers subidentifier sevens printed listingOf recordLines
-    recordLine refusalText findingLines lostLine totalLine word decimal digitsBy tallyOf events
+    elementOk primitiveOk arcsOk ascendFrom octetsLe headOf childrenOf childrenBy octetsFrom numberFrom integerOf timeOf ifReal dateAt
+    digitsAndZ areDigits dateOk momentOf secondsOf daysOf beforeYear beforeMonth certificateVerdict valueOk fits certificate keyUsage judged
+    valueOf isBelow otherBits anyBelow isOneOf p12Deck askedOf _and_ between checkOf sound blockOf certificateOctets issuerOctets zeroFilled blocksOf
+    blocks isPart isWhole run starts recordFrom lossOf foundAt lintedRoom itemAt roomAt admissionOf sideJudgement bothSides judgementOf answerOf
+    roomOf oid subidentifiers subidentifier sevens printed listingOf recordLines recordLine refusalText findingLines lostLine totalLine word
+    decimal digitsBy tallyOf events
 examples = refl

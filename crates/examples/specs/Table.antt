@@ -6,6 +6,7 @@ use Prim.Native.Nat.{ℕ}
 use Prim.Native.String.{String}
 use lib.ListN.{length, take, drop, replicate}
 use lib.IntN.{ℤ, pos, negsuc}
+use Rattle.der.specs.Tags.{octetStringTag, utcTimeTag, sequenceTag}
 use Rattle.der.specs.Header.{headOf}
 use Rattle.der.specs.Contents.{contentsOf}
 use Rattle.der.specs.Integers.{integerOf}
@@ -90,7 +91,7 @@ brokenRules (r ∷ rs) = ifBroken (r .rule) (r .broken) (brokenRules rs)
 -- a certificate of this validity, of which nothing else is asked
 abbrev pub certificateWith : Validity → Certificate
 certificateWith v =
-    let h : Head = record { at = 0; tag = 48; body = 2; end = 2; sound = true } in
+    let h : Head = record { at = 0; tag = sequenceTag; body = 2; end = 2; sound = true } in
     record {
       tbs = h;
       version = h;
@@ -114,7 +115,7 @@ validityBreaks p Bad b = senseless
 
 -- an OCTET STRING that holds these octets, and key usage, slot 4, with it
 abbrev pub heldOctets : List ℕ → List ℕ
-heldOctets value = 4 ∷ length value ∷ value
+heldOctets value = octetStringTag ∷ length value ∷ value
 
 abbrev pub usageStanding : List ℕ → Standing
 usageStanding s = byValue s 4 (record { place = headOf s 0 (length s); critical = true; value = headOf s 0 (length s) })
@@ -129,8 +130,8 @@ toldBy v = refusal (v .number) (v .side) (v .place)
 unfoldable pub answer : Query → Reply
 answer (linted s) = toldBy (answerValues (answerOf s (0x30 ∷ 0x00 ∷ []) 1 []))
 answer (integer s) = number (integerOf (contentsOf s (headOf s 0 (length s))))
-answer (year text) = yearOf (timeOf 23 (word text))
-answer (validity p a b) = validityBreaks p (timeOf 23 (word a)) (timeOf 23 (word b))
+answer (year text) = yearOf (timeOf utcTimeTag (word text))
+answer (validity p a b) = validityBreaks p (timeOf utcTimeTag (word a)) (timeOf utcTimeTag (word b))
 answer (below s) = says (isBelow federalArc s)
 answer (usage p kind value) = usageBreaks p kind (heldOctets value)
 answer (check k p) = octets (drop 510 (blockOf k (length p) 0 (take 502 (zeroFilled p))))

@@ -5,10 +5,12 @@ use mathlib.Core.Bool.{true}
 use mathlib.Core.List.{List}
 use Prim.Native.Nat.{ℕ, _+_}
 use lib.ListN.{length}
+use Rattle.facts.specs.Kinds.{isRsa}
 use Rattle.octets.specs.Octets.{octetAt}
 use Rattle.der.specs.Header.{headOf, childrenOf}
 use Rattle.der.specs.Elements.{HeldFrom}
 use Rattle.der.specs.Soundness.{stretchSoundness}
+use Rattle.der.specs.Tags.{sequenceTag}
 use Rattle.der.specs.declared.header.Head.{Head}
 use Rattle.der.specs.declared.walk.Soundness.the-variants.{Sound}
 use Rattle.certificate.specs.Fields.{certificateOf}
@@ -16,7 +18,6 @@ use Rattle.certificate.specs.Key.{keyOf}
 use Rattle.certificate.specs.Extensions.{extensionOf}
 use Rattle.certificate.specs.declared.key.Key.{Key}
 use Rattle.report.specs.Order.{In}
-use Rattle.facts.specs.Kinds.{isRsa}
 
 -- one element fills the octets from place at to end, and is sound with all that it holds, depths counted from 1
 abbrev pub Fills : List ℕ → ℕ → ℕ → Type 0
@@ -47,7 +48,7 @@ pub data Topmost (s : List ℕ) : Head → Type 0 where
   in-value : {x v : Head} → In x (extensionsOf s) → v ≡ extensionOf s x .value → Fills s (v .body) (v .end)
       → Topmost s (headOf s (v .body) (v .end))
   -- the bits b are "exactly a sound SEQUENCE"
-  in-bits : {b : Head} → RsaBits s b → Fills s (bitsStart b) (b .end) → headOf s (bitsStart b) (b .end) .tag ≡ 0x30
+  in-bits : {b : Head} → RsaBits s b → Fills s (bitsStart b) (b .end) → headOf s (bitsStart b) (b .end) .tag ≡ sequenceTag
       → Topmost s (headOf s (bitsStart b) (b .end))
 
 -- an element of the octets s: "In a constructed one, an element holds a list of elements, each again such an element"

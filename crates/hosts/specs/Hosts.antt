@@ -2,11 +2,13 @@
 use mathlib.Core.List.{List, [], _∷_, _++_}
 use mathlib.Core.Bool.{Bool, true, false, cond, not, _&&_, _||_}
 use Prim.Native.Nat.{ℕ}
+use Prim.Native.Char.{code}
 use lib.ListN.{length}
 use lib.Dec.{leb, eqb}
 use Rattle.hosts.specs.Names.{isDnsName}
 use Rattle.hosts.specs.declared.hosts.Host.{Host}
 use Rattle.hosts.specs.declared.hosts.Host.the-variants.{Plain, Neither}
+use Rattle.octets.specs.Characters.{isDigit, isLetter}
 use Rattle.der.specs.Contents.{lastOf, contentsOf}
 use Rattle.der.specs.declared.header.Head.{Head}
 
@@ -14,13 +16,13 @@ unfoldable pub hasOctet : ℕ → List ℕ → Bool
 hasOctet x [] = false
 hasOctet x (b ∷ bs) = eqb b x || hasOctet x bs
 
--- 413 "each dNSName with an underscore", 95 in ASCII
+-- 413 "each dNSName with an underscore"
 abbrev pub hasUnderscore : List ℕ → Head → Bool
-hasUnderscore s h = isDnsName h && hasOctet 95 (contentsOf s h)
+hasUnderscore s h = isDnsName h && hasOctet (code "_") (contentsOf s h)
 
--- "letters, digits, hyphens (underscore passes here)": A to Z are 65 to 90, a to z 97 to 122, 0 to 9 48 to 57, the hyphen is 45
+-- "letters, digits, hyphens (underscore passes here)"
 abbrev pub labelOctet : ℕ → Bool
-labelOctet b = (leb 65 b && leb b 90 || leb 97 b && leb b 122) || (leb 48 b && leb b 57 || (eqb b 45 || eqb b 95))
+labelOctet b = isLetter b || (isDigit b || (eqb b (code "-") || eqb b (code "_")))
 
 unfoldable pub labelOctets : List ℕ → Bool
 labelOctets [] = true
@@ -29,12 +31,12 @@ labelOctets (b ∷ bs) = labelOctet b && labelOctets bs
 -- "1 to 63 letters, digits, hyphens (underscore passes here), no hyphen at either end of a label"
 abbrev pub labelOk : List ℕ → Bool
 labelOk [] = false
-labelOk (b ∷ bs) = leb (length (b ∷ bs)) 63 && (labelOctets (b ∷ bs) && (not (eqb b 45) && not (eqb (lastOf b bs) 45)))
+labelOk (b ∷ bs) = leb (length (b ∷ bs)) 63 && (labelOctets (b ∷ bs) && (not (eqb b (code "-")) && not (eqb (lastOf b bs) (code "-"))))
 
--- the labels of octets that stand behind the label so far: a dot, 46 in ASCII, ends it, and so does the end of the name
+-- the labels of octets that stand behind the label so far: a dot ends it, and so does the end of the name
 unfoldable pub labelsFrom : List ℕ → List ℕ → List (List ℕ)
 labelsFrom label [] = label ∷ []
-labelsFrom label (b ∷ bs) = cond (eqb b 46) (label ∷ labelsFrom [] bs) (labelsFrom (label ++ (b ∷ [])) bs)
+labelsFrom label (b ∷ bs) = cond (eqb b (code ".")) (label ∷ labelsFrom [] bs) (labelsFrom (label ++ (b ∷ [])) bs)
 
 -- a name's labels, which dots set apart (a dot at the end leaves an empty label)
 abbrev pub labelsOf : List ℕ → List (List ℕ)

@@ -5,12 +5,13 @@ use Prim.Native.Nat.{ℕ}
 use lib.Dec.{eqb}
 use Rattle.octets.specs.Same.{sameBy, lowerCase}
 use Rattle.der.specs.Contents.{contentsOf}
+use Rattle.der.specs.Tags.{contextTag}
 use Rattle.der.specs.declared.header.Head.{Head}
 use Rattle.der.specs.Elements.{anyOf}
 
--- dNSName [2] IA5String: tag 82 hex
+-- dNSName [2] IA5String
 abbrev pub isDnsName : Head → Bool
-isDnsName h = eqb (h .tag) 130
+isDnsName h = eqb (h .tag) (contextTag 2)
 
 -- a dNSName whose contents are these octets, ASCII case ignored
 abbrev pub isNamed : List ℕ → List ℕ → Head → Bool

@@ -46,7 +46,7 @@ pub fn has_underscore(s: &[u8], h: Head) -> bool
 {
     let body = h.body;
     if is_dns_name(h) {
-        return has_octet(s, 95, body, octets::minus(h.end, body));
+        return has_octet(s, b'_', body, octets::minus(h.end, body));
     }
     false
 }
@@ -54,29 +54,29 @@ pub fn has_underscore(s: &[u8], h: Head) -> bool
 fn label_octet(b: u8) -> bool
     ensures { λ r. ⌜ r ≡ labelOctet b ⌝ }
 {
-    let letter = (65 <= b) & (b <= 90) | (97 <= b) & (b <= 122);
-    letter | ((48 <= b) & (b <= 57) | ((b == 45) | (b == 95)))
+    let letter = (b'A' <= b) & (b <= b'Z') | (b'a' <= b) & (b <= b'z');
+    letter | (octets::is_digit(b) | ((b == b'-') | (b == b'_')))
 }
 
 // Whether a label of this size, whose last octet is `last`, may end.
 fn may_end(size: usize, last: u8) -> bool
     ensures { λ r. ⌜ r ≡ mayEnd size last ⌝ }
 {
-    !(size == 0) & !(last == 45)
+    !(size == 0) & !(last == b'-')
 }
 
 // Whether a label of this size may go on with the octet b.
 fn may_grow(size: usize, b: u8) -> bool
     ensures { λ r. ⌜ r ≡ mayGrow size b ⌝ }
 {
-    label_octet(b) & (!((size == 0) & (b == 45)) & (size < 63))
+    label_octet(b) & (!((size == 0) & (b == b'-')) & (size < 63))
 }
 
 // Whether b may follow: a dot ends the label, any other octet goes on with it.
 fn may_follow(size: usize, last: u8, b: u8) -> bool
     ensures { λ r. ⌜ r ≡ mayFollow size last b ⌝ }
 {
-    if b == 46 {
+    if b == b'.' {
         may_end(size, last)
     } else {
         may_grow(size, b)
@@ -87,7 +87,7 @@ fn size_after(size: usize, b: u8) -> usize
     requires { ⌜ size < largest ⌝ }
     ensures { λ r. ⌜ r ≡ sizeAfter size b ⌝ }
 {
-    if b == 46 { 0 } else { size + 1 }
+    if b == b'.' { 0 } else { size + 1 }
 }
 
 // Whether the n octets from `body` on are two labels or more, each a good one. They are read once: of the label so
@@ -96,7 +96,7 @@ fn labels_ok(s: &[u8], body: usize, n: usize) -> bool
     ensures { λ r. ⌜ r ≡ (leb 2 (length (labelsOf (octetsFrom (now (s .entry)) body n))) && labelsOk (labelsOf (octetsFrom (now (s .entry)) body n))) ⌝ }
 {
     let mut size = 0;
-    let mut last = 46;
+    let mut last = b'.';
     let mut dotted = false;
     let mut k = 0;
     while k < n {
@@ -106,7 +106,7 @@ fn labels_ok(s: &[u8], body: usize, n: usize) -> bool
         }
         size = size_after(size, b);
         last = b;
-        dotted = dotted | (b == 46);
+        dotted = dotted | (b == b'.');
         k += 1;
     }
     dotted & may_end(size, last)

@@ -10,6 +10,7 @@ use Rattle.locations.specs.declared.access.Method.the-variants.{Ocsp, Ca
 use Rattle.der.specs.Members.{firstIn, secondIn}
 use Rattle.der.specs.Comparing.{contentsAre}
 use Rattle.der.specs.Oids.{oid}
+use Rattle.der.specs.Tags.{objectIdentifierTag}
 use Rattle.der.specs.declared.header.Head.{Head}
 
 -- id-ad-ocsp, id-ad-caIssuers
@@ -17,9 +18,9 @@ abbrev pub methodIdentifier : Method → List ℕ
 methodIdentifier Ocsp = oid (1 ∷ 3 ∷ 6 ∷ 1 ∷ 5 ∷ 5 ∷ 7 ∷ 48 ∷ 1 ∷ [])
 methodIdentifier CaIssuers = oid (1 ∷ 3 ∷ 6 ∷ 1 ∷ 5 ∷ 5 ∷ 7 ∷ 48 ∷ 2 ∷ [])
 
--- an OBJECT IDENTIFIER, tag 6, that is the method's
+-- an OBJECT IDENTIFIER that is the method's
 abbrev pub isMethod : List ℕ → Method → Head → Bool
-isMethod s method h = eqb (h .tag) 6 && contentsAre s h (methodIdentifier method)
+isMethod s method h = eqb (h .tag) objectIdentifierTag && contentsAre s h (methodIdentifier method)
 
 -- the entry's first member
 abbrev pub methodOf : List ℕ → Head → Head

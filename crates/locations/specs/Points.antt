@@ -8,20 +8,21 @@ use mathlib.Core.Bool.{Bool, cond, _&&_, _||_}
 use Prim.Native.Nat.{ℕ}
 use lib.Dec.{eqb}
 use Rattle.der.specs.Members.{missing, membersIn, firstIn}
+use Rattle.der.specs.Tags.{contextTag, contextHolder}
 use Rattle.der.specs.declared.header.Head.{Head}
 use Rattle.der.specs.Elements.{anyOf}
 
--- reasons, tag 81 hex, or cRLIssuer, tag A2 hex
+-- reasons, or cRLIssuer
 abbrev pub isRestriction : Head → Bool
-isRestriction h = eqb (h .tag) 129 || eqb (h .tag) 162
+isRestriction h = eqb (h .tag) (contextTag 1) || eqb (h .tag) (contextHolder 2)
 
 -- 419 "each point with reasons or cRLIssuer"
 abbrev pub isRestricted : List ℕ → Head → Bool
 isRestricted s h = anyOf isRestriction (membersIn s h)
 
--- a point has a full name: distributionPoint, tag A0 hex, stands first, and in it fullName, tag A0 hex again
+-- a point has a full name: distributionPoint stands first, and in it fullName
 abbrev pub hasFullName : List ℕ → Head → Bool
-hasFullName s h = eqb (firstIn s h .tag) 160 && eqb (firstIn s (firstIn s h) .tag) 160
+hasFullName s h = eqb (firstIn s h .tag) (contextHolder 0) && eqb (firstIn s (firstIn s h) .tag) (contextHolder 0)
 
 -- it, or an element that holds nothing
 unfoldable pub fullNameOf : List ℕ → Head → Head

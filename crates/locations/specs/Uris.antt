@@ -7,11 +7,11 @@ use lib.Dec.{ltb, eqb}
 use Rattle.texts.specs.Texts.{word}
 use Rattle.octets.specs.Same.{sameBy, lowerCase}
 use Rattle.der.specs.Contents.{contentsOf}
+use Rattle.der.specs.Tags.{contextTag}
 use Rattle.der.specs.declared.header.Head.{Head}
 
--- tag 86 hex
 abbrev pub isUri : Head → Bool
-isUri h = eqb (h .tag) 134
+isUri h = eqb (h .tag) (contextTag 6)
 
 -- "'http://' in any case, then something"
 abbrev pub beginsHttp : List ℕ → Bool

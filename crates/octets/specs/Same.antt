@@ -1,8 +1,10 @@
 -- When two stretches of octets are the same: octet by octet, or with the case of ASCII letters ignored.
 use mathlib.Core.List.{List, [], _∷_}
 use mathlib.Core.Bool.{Bool, true, false, cond, _&&_}
-use Prim.Native.Nat.{ℕ, _+_}
-use lib.Dec.{ltb, eqb}
+use Prim.Native.Nat.{ℕ, _+_, _-_}
+use Prim.Native.Char.{code}
+use lib.Dec.{eqb}
+use Rattle.octets.specs.Characters.{isUpper}
 
 -- as many octets here as there, each the same once f has been applied to both
 unfoldable pub sameBy : (ℕ → ℕ) → List ℕ → List ℕ → Bool
@@ -15,6 +17,6 @@ sameBy f (x ∷ xs) (y ∷ ys) = eqb (f x) (f y) && sameBy f xs ys
 abbrev pub exactly : ℕ → ℕ
 exactly b = b
 
--- A to Z, 65 to 90, become a to z
+-- A to Z become a to z
 abbrev pub lowerCase : ℕ → ℕ
-lowerCase b = cond (ltb b 65) b (cond (ltb b 91) (b + 32) b)
+lowerCase b = cond (isUpper b) (b + (code "a" - code "A")) b

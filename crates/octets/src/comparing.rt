@@ -25,10 +25,10 @@ fn fold(letters: Letters, b: u8) -> u8
 pub fn lower_case(b: u8) -> u8
     ensures { λ r. ⌜ r ≡ lowerCase b ⌝ }
 {
-    if b < 65 {
+    if b < b'A' {
         return b;
     }
-    if b < 91 { b + 32 } else { b }
+    if b <= b'Z' { b + 32 } else { b }
 }
 
 fn same_by(letters: Letters, s: &[u8], a: usize, t: &[u8], b: usize, n: usize) -> bool

@@ -1,9 +1,11 @@
 // Octets by their place. Every function answers for every argument: past the end of the list an octet is 0.
+mod characters;
 mod comparing;
 mod copying;
 mod places;
 mod reading;
 
+pub use characters::is_digit;
 pub use comparing::equals;
 pub use comparing::lower_case;
 pub use comparing::same;

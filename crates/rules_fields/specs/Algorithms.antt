@@ -3,15 +3,15 @@ use mathlib.Core.Bool.{Bool, not}
 use mathlib.Core.List.{List, [], _∷_, _++_}
 use Prim.Native.Nat.{ℕ}
 use Rattle.der.specs.Comparing.{contentsAre, octetsAre, sameElement}
-use Rattle.der.specs.Oids.{oidElement}
+use Rattle.der.specs.Oids.{oidElement, nullElement}
 use Rattle.der.specs.declared.header.Head.{Head}
 use Rattle.certificate.specs.declared.fields.Certificate.{Certificate}
 use Rattle.profiles.specs.Judged.{everyProfile}
 use Rattle.report.specs.Rows.{Row, _for_⦂_, brokenAt}
 
--- the OBJECT IDENTIFIER sha256WithRSAEncryption, and then NULL, tag 5, without contents
+-- the OBJECT IDENTIFIER sha256WithRSAEncryption, and then NULL
 abbrev pub sha256Rsa : List ℕ
-sha256Rsa = oidElement (1 ∷ 2 ∷ 840 ∷ 113549 ∷ 1 ∷ 1 ∷ 11 ∷ []) ++ 5 ∷ 0 ∷ []
+sha256Rsa = oidElement (1 ∷ 2 ∷ 840 ∷ 113549 ∷ 1 ∷ 1 ∷ 11 ∷ []) ++ nullElement
 
 -- an AlgorithmIdentifier holds these and nothing else
 abbrev pub isSha256Rsa : List ℕ → Head → Bool

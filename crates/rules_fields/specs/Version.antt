@@ -6,6 +6,7 @@ use lib.Dec.{ltb, eqb}
 use Rattle.der.specs.Contents.{contentsOf}
 use Rattle.der.specs.Comparing.{firstIs}
 use Rattle.der.specs.Integers.{integerOf}
+use Rattle.der.specs.Tags.{contextHolder}
 use Rattle.der.specs.declared.header.Head.{Head}
 use Rattle.numbers.specs.Numbers.{isPositive}
 use Rattle.certificate.specs.declared.fields.Certificate.{Certificate}
@@ -14,10 +15,10 @@ use Rattle.report.specs.Rows.{Row, _for_⦂_, brokenAt}
 
 -- the version stands in [0], and 2 says v3 (RFC 5280, 4.1.2.1)
 abbrev pub isV3 : List ℕ → Head → Bool
-isV3 s version = eqb (version .tag) 0xA0 && firstIs s version (2 ∷ [])
+isV3 s version = eqb (version .tag) (contextHolder 0) && firstIs s version (2 ∷ [])
 
 abbrev pub versionPlace : Head → Head → Head
-versionPlace version tbs = cond (eqb (version .tag) 0xA0) version tbs
+versionPlace version tbs = cond (eqb (version .tag) (contextHolder 0)) version tbs
 
 -- 101 "version v3 (at its [0], or the TBS structure)"
 abbrev pub rule101 : List ℕ → Certificate → List Head

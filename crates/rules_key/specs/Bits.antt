@@ -8,6 +8,7 @@ use Rattle.der.specs.Header.{headOf, childrenOf}
 use Rattle.der.specs.Contents.{contentsOf}
 use Rattle.der.specs.Integers.{integerOf}
 use Rattle.der.specs.Soundness.{stretchSoundness, isSound}
+use Rattle.der.specs.Tags.{integerTag, sequenceTag}
 use Rattle.der.specs.declared.header.Head.{Head}
 use Rattle.numbers.specs.Numbers.{isPositive}
 
@@ -25,9 +26,9 @@ modulusOf s h = headOf s (sequenceIn s h .body) (sequenceIn s h .end)
 abbrev pub exponentOf : List ℕ → Head → Head
 exponentOf s h = headOf s (modulusOf s h .end) (sequenceIn s h .end)
 
--- an INTEGER (tag 2) above zero
+-- an INTEGER above zero
 abbrev pub isPositiveInteger : List ℕ → Head → Bool
-isPositiveInteger s h = eqb (h .tag) 2 && isPositive (integerOf (contentsOf s h))
+isPositiveInteger s h = eqb (h .tag) integerTag && isPositive (integerOf (contentsOf s h))
 
 abbrev pub twoPositive : List ℕ → List Head → Bool
 twoPositive s [] = false
@@ -35,9 +36,9 @@ twoPositive s (m ∷ []) = false
 twoPositive s (m ∷ e ∷ []) = isPositiveInteger s m && isPositiveInteger s e
 twoPositive s (m ∷ e ∷ h ∷ hs) = false
 
--- 204 "RSA bits are, with 0 unused, exactly a sound SEQUENCE of two positive INTEGERs" (SEQUENCE: 30 hex)
+-- 204 "RSA bits are, with 0 unused, exactly a sound SEQUENCE of two positive INTEGERs"
 unfoldable pub rsaBits : List ℕ → Head → Bool
 rsaBits s h =
     eqb (octetAt s (h .body)) 0
     && (isSound (stretchSoundness s (bitsFrom h) (h .end))
-    && (eqb (sequenceIn s h .tag) 48 && twoPositive s (childrenOf s (sequenceIn s h .body) (sequenceIn s h .end))))
+    && (eqb (sequenceIn s h .tag) sequenceTag && twoPositive s (childrenOf s (sequenceIn s h .body) (sequenceIn s h .end))))

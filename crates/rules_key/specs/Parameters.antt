@@ -3,12 +3,11 @@ use mathlib.Core.List.{List, [], _∷_}
 use mathlib.Core.Bool.{Bool, _||_}
 use Prim.Native.Nat.{ℕ}
 use Rattle.der.specs.Comparing.{octetsAre}
-use Rattle.der.specs.Oids.{oidElement}
+use Rattle.der.specs.Oids.{oidElement, nullElement}
 use Rattle.der.specs.declared.header.Head.{Head}
 
--- NULL: tag 5, no contents
 abbrev pub isNull : List ℕ → Head → Bool
-isNull s h = octetsAre s h (5 ∷ 0 ∷ [])
+isNull s h = octetsAre s h nullElement
 
 -- The curves that document 000 lists ("Server Authentication Certificate Profile", the full table, row "Subject Public Key Information"), as
 -- OBJECT IDENTIFIERs: "Curve P-256 {1.2.840.10045.3.1.7}"

@@ -6,6 +6,7 @@ use lib.Dec.{ltb, eqb}
 use Rattle.octets.specs.Same.{sameBy, exactly}
 use Rattle.der.specs.Contents.{contentsOf}
 use Rattle.der.specs.Members.{firstIn}
+use Rattle.der.specs.Tags.{contextTag}
 use Rattle.der.specs.declared.header.Head.{Head}
 use Rattle.certificate.specs.Issuer.{KeyIdentifier}
 use Rattle.certificate.specs.Standing.{Standing}
@@ -13,9 +14,9 @@ use Rattle.forms.specs.Values.{whereGood}
 use Rattle.profiles.specs.Judged.{S, everyProfile}
 use Rattle.report.specs.Rows.{Row, _for_⦂_, brokenAt}
 
--- AuthorityKeyIdentifier ::= SEQUENCE { keyIdentifier [0] KeyIdentifier OPTIONAL, .. }: the first member, if its tag is [0], 80 hex
+-- AuthorityKeyIdentifier ::= SEQUENCE { keyIdentifier [0] KeyIdentifier OPTIONAL, .. }: the first member, if its tag is [0]
 abbrev pub authorityKey : List ℕ → Head → KeyIdentifier
-authorityKey s v = cond (eqb (firstIn s v .tag) 0x80) (KeyIdentifier.some (contentsOf s (firstIn s v))) KeyIdentifier.none
+authorityKey s v = cond (eqb (firstIn s v .tag) (contextTag 0)) (KeyIdentifier.some (contentsOf s (firstIn s v))) KeyIdentifier.none
 
 -- both are there, and are the same octets
 abbrev pub sameKey : KeyIdentifier → KeyIdentifier → Bool

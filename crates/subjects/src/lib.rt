@@ -1,12 +1,12 @@
 // The attributes of a subject name (AttributeTypeAndValue), and the SETs that hold them. What is asked here is asked of
 // one of them: rules 115, 117 and 119 of an attribute, 121 of a SET.
 mod sets;
-mod texts;
 mod types;
+mod values;
 
 pub use sets::is_crowded;
-pub use texts::is_other_country;
-pub use texts::is_other_organization;
-pub use texts::is_other_state;
 pub use types::arc_of;
 pub use types::attribute_value;
+pub use values::is_other_country;
+pub use values::is_other_organization;
+pub use values::is_other_state;

@@ -1,23 +1,16 @@
 -- What a text of decimal digits says.
-use mathlib.Core.Bool.{Bool, true, cond, _&&_}
+use mathlib.Core.Bool.{Bool, cond, _&&_}
 use mathlib.Core.List.{List, [], _∷_}
-use Prim.Native.Nat.{ℕ, _+_, _-_, _*_}
+use Prim.Native.Nat.{ℕ, _+_, _*_}
 use lib.Dec.{leb}
 use Rattle.texts.specs.declared.numerals.Numeral.{Numeral}
 use Rattle.texts.specs.declared.numerals.Numeral.the-variants.{Number, Other}
-
--- 0 to 9
-abbrev pub isDecimalDigit : ℕ → Bool
-isDecimalDigit c = leb 48 c && leb c 57
-
-unfoldable pub areDigits : List ℕ → Bool
-areDigits [] = true
-areDigits (c ∷ cs) = isDecimalDigit c && areDigits cs
+use Rattle.octets.specs.Characters.{isDigit, areDigits, digitOf}
 
 -- the number that digits say, written on behind n
 unfoldable pub valueFrom : ℕ → List ℕ → ℕ
 valueFrom n [] = n
-valueFrom n (c ∷ cs) = valueFrom (10 * n + (c - 48)) cs
+valueFrom n (c ∷ cs) = valueFrom (10 * n + digitOf c) cs
 
 -- "octets 0–3 record number"
 abbrev pub largestNumber : ℕ

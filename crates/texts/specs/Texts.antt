@@ -1,10 +1,11 @@
 -- Texts as lists of octets: words, and numbers in decimal.
 use mathlib.Core.List.{List, [], _∷_, _++_}
 use mathlib.Core.Bool.{true, false}
-use Prim.Native.Nat.{ℕ, zero, suc, _+_, _/_, _%_}
+use Prim.Native.Nat.{ℕ, zero, suc, _/_, _%_}
 use Prim.Native.Char.{code}
 use Prim.Native.String.{String, [] as none, _∷_ as _then_}
 use lib.Dec.{ltb}
+use Rattle.octets.specs.Characters.{digitFor}
 
 -- the characters of a text, all of ASCII, as octets
 unfoldable pub word : String → List ℕ
@@ -14,7 +15,7 @@ word (c then s) = code c ∷ word s
 -- the digits of a number, of which there are at most `most`
 unfoldable pub digitsBy : ℕ → ℕ → List ℕ
 digitsBy zero n = []
-digitsBy (suc most) n = elim (ltb n 10) [ true ↦ (48 + n) ∷ [] | false ↦ digitsBy most (n / 10) ++ ((48 + n % 10) ∷ []) ]
+digitsBy (suc most) n = elim (ltb n 10) [ true ↦ digitFor n ∷ [] | false ↦ digitsBy most (n / 10) ++ (digitFor (n % 10) ∷ []) ]
 
 -- a number in decimal, which has fewer digits than it counts
 unfoldable pub decimal : ℕ → List ℕ

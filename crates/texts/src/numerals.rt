@@ -1,6 +1,6 @@
 // What decimal digits say.
 ghost use mathlib.Core.Path.{_≡_};
-ghost use Rattle.texts.specs.Numerals.{isDecimalDigit, decimalOf};
+ghost use Rattle.texts.specs.Numerals.{decimalOf};
 ghost use Rattle.texts.specs.Workings.Numerals.{appended};
 
 pub enum Numeral {
@@ -12,20 +12,14 @@ pub enum Numeral {
 // The largest record number.
 const LARGEST: u64 = 4294967295;
 
-fn is_digit(c: u8) -> bool
-    ensures { λ r. ⌜ r ≡ isDecimalDigit c ⌝ }
-{
-    (48 <= c) & (c <= 57)
-}
-
 // A number with a digit written on.
 fn append(number: u32, c: u8) -> Numeral
     ensures { λ r. ⌜ r ≡ appended number c ⌝ }
 {
-    if !is_digit(c) {
+    if !octets::is_digit(c) {
         return Numeral::Other;
     }
-    let next = 10 * (number as u64) + ((c - 48) as u64);
+    let next = 10 * (number as u64) + ((c - b'0') as u64);
     if next > LARGEST {
         return Numeral::Other;
     }

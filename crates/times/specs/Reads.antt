@@ -1,10 +1,11 @@
 -- "A time is either UTCTime or GeneralizedTime, kept with the form it had: YYMMDDHHMMSSZ (50 to 99 is 19YY) or YYYYMMDDHHMMSSZ"
 -- (document 01, "Certificate"). All definitions go by the contents of the element.
-use mathlib.Core.List.{List, [], _∷_}
-use mathlib.Core.Bool.{Bool, true, cond, _&&_}
-use Prim.Native.Nat.{ℕ, _+_, _*_, _%_}
+use mathlib.Core.List.{List}
+use mathlib.Core.Bool.{Bool, cond, _&&_}
+use Prim.Native.Nat.{ℕ, _+_, _*_}
+use Prim.Native.Char.{code}
 use lib.ListN.{length}
-use lib.Dec.{ltb, leb, eqb}
+use lib.Dec.{ltb, eqb}
 use Rattle.times.specs.declared.calendar.Date.{Date}
 use Rattle.times.specs.declared.validity.Time.{Time}
 use Rattle.times.specs.declared.validity.Time.the-variants.{Utc, General}
@@ -13,27 +14,17 @@ use Rattle.times.specs.declared.reading.Reading.the-variants.{Is, Bad}
 use Rattle.times.specs.Calendar.{dateOk}
 use Rattle.times.specs.Validity.{dateOf}
 use Rattle.octets.specs.Octets.{octetAt, octetsFrom}
-
--- 0 to 9 in ASCII are 48 to 57, or 30 to 39 hex
-abbrev pub isDigit : ℕ → Bool
-isDigit b = leb 48 b && leb b 57
-
--- the number that a digit says: its low four bits
-abbrev pub digitOf : ℕ → ℕ
-digitOf b = b % 16
-
-unfoldable pub allDigits : List ℕ → Bool
-allDigits [] = true
-allDigits (b ∷ bs) = isDigit b && allDigits bs
+use Rattle.octets.specs.Characters.{areDigits, digitOf}
+use Rattle.der.specs.Tags.{utcTimeTag, generalizedTimeTag}
 
 -- the first octets, so many, are digits
 abbrev pub digitsFirst : ℕ → List ℕ → Bool
-digitsFirst digits contents = allDigits (octetsFrom contents 0 digits)
+digitsFirst digits contents = areDigits (octetsFrom contents 0 digits)
 
 -- so many digits, Z, and nothing more
 unfoldable pub digitsAndZ : ℕ → List ℕ → Bool
 digitsAndZ digits contents =
-    eqb (length contents) (digits + 1) && (digitsFirst digits contents && eqb (octetAt contents digits) 90)
+    eqb (length contents) (digits + 1) && (digitsFirst digits contents && eqb (octetAt contents digits) (code "Z"))
 
 -- the number that the two digits at place k say
 abbrev pub twoAt : ℕ → List ℕ → ℕ
@@ -65,8 +56,8 @@ generalDate contents = dateAt 4 (100 * twoAt 0 contents + twoAt 2 contents) cont
 unfoldable pub ifReal : Bool → Time → Reading
 ifReal written t = cond (written && dateOk (dateOf t)) (Is t) Bad
 
--- by the tag: UTCTime 23, GeneralizedTime 24
+-- by the tag
 unfoldable pub timeOf : ℕ → List ℕ → Reading
 timeOf tag contents =
-    cond (eqb tag 23) (ifReal (digitsAndZ 12 contents) (Utc (utcDate contents)))
-    (cond (eqb tag 24) (ifReal (digitsAndZ 14 contents) (General (generalDate contents))) Bad)
+    cond (eqb tag utcTimeTag) (ifReal (digitsAndZ 12 contents) (Utc (utcDate contents)))
+    (cond (eqb tag generalizedTimeTag) (ifReal (digitsAndZ 14 contents) (General (generalDate contents))) Bad)

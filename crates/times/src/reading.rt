@@ -5,9 +5,12 @@ use crate::calendar::date_ok;
 use crate::validity::Time;
 use crate::validity::date_of;
 ghost use mathlib.Core.Path.{_≡_};
-ghost use Prim.Native.Nat.{_<_};
+ghost use mathlib.Core.Bool.{true};
+ghost use mathlib.Core.List.{List};
+ghost use Prim.Native.Nat.{ℕ, _+_, _<_};
 ghost use Rattle.octets.specs.Octets.{octetAt, octetsFrom};
-ghost use Rattle.times.specs.Reads.{isDigit, digitsFirst, digitsAndZ, twoAt, dateAt, utcDate, generalDate, fullYear, ifReal, timeOf};
+ghost use Rattle.octets.specs.Characters.{isDigit};
+ghost use Rattle.times.specs.Reads.{digitsFirst, digitsAndZ, twoAt, dateAt, utcDate, generalDate, fullYear, ifReal, timeOf};
 
 // A time, or contents that are none.
 pub enum Reading {
@@ -26,19 +29,13 @@ fn content(s: &[u8], body: usize, n: usize, k: usize) -> u8
     }
 }
 
-fn is_digit(b: u8) -> bool
-    ensures { λ r. ⌜ r ≡ isDigit b ⌝ }
-{
-    (48 <= b) & (b <= 57)
-}
-
 // Whether the contents begin with so many digits.
 fn digits_first(s: &[u8], body: usize, n: usize, digits: usize) -> bool
     ensures { λ r. ⌜ r ≡ digitsFirst digits (octetsFrom (now (s .entry)) body n) ⌝ }
 {
     let mut k = 0;
     while k < digits {
-        if !is_digit(content(s, body, n, k)) {
+        if !octets::is_digit(content(s, body, n, k)) {
             return false;
         }
         k += 1;
@@ -53,17 +50,18 @@ fn digits_and_z(s: &[u8], body: usize, n: usize, digits: u8) -> bool
     (n == last + 1) & (digits_first(s, body, n, last) & (content(s, body, n, last) == b'Z'))
 }
 
-// The number that the two digits at place k say. An octet that is no digit counts by its low four bits, as a digit does.
+// The number that the two digits at place k say: a digit's is its low four bits. So is another octet's, of which nothing is promised.
 fn two_at(s: &[u8], body: usize, n: usize, k: u16) -> u8
-    ensures { λ r. ⌜ (r ≡ twoAt k (octetsFrom (now (s .entry)) body n)) × (r < 166) ⌝ }
+    ensures { λ r. let contents : List ℕ = octetsFrom (now (s .entry)) body n in
+        ⌜ (isDigit (octetAt contents k) ≡ true → isDigit (octetAt contents (k + 1)) ≡ true → r ≡ twoAt k contents) × (r < 166) ⌝ }
 {
     let place = k as usize;
     10 * (content(s, body, n, place) % 16) + content(s, body, n, place + 1) % 16
 }
 
-// The date with this year whose month stands at place k.
+// The date with this year whose month stands at place k, if the contents up to its end are digits.
 fn date_at(s: &[u8], body: usize, n: usize, k: u8, year: u16) -> Date
-    ensures { λ r. ⌜ r ≡ dateAt k year (octetsFrom (now (s .entry)) body n) ⌝ }
+    ensures { λ r. let contents : List ℕ = octetsFrom (now (s .entry)) body n in ⌜ (digitsFirst (k + 10) contents ≡ true → r ≡ dateAt k year contents) ⌝ }
 {
     let first = k as u16;
     Date {
@@ -87,13 +85,13 @@ fn full_year(year: u8) -> u16
 }
 
 fn utc_date(s: &[u8], body: usize, n: usize) -> Date
-    ensures { λ r. ⌜ r ≡ utcDate (octetsFrom (now (s .entry)) body n) ⌝ }
+    ensures { λ r. let contents : List ℕ = octetsFrom (now (s .entry)) body n in ⌜ (digitsFirst 12 contents ≡ true → r ≡ utcDate contents) ⌝ }
 {
     date_at(s, body, n, 2, full_year(two_at(s, body, n, 0)))
 }
 
 fn general_date(s: &[u8], body: usize, n: usize) -> Date
-    ensures { λ r. ⌜ r ≡ generalDate (octetsFrom (now (s .entry)) body n) ⌝ }
+    ensures { λ r. let contents : List ℕ = octetsFrom (now (s .entry)) body n in ⌜ (digitsFirst 14 contents ≡ true → r ≡ generalDate contents) ⌝ }
 {
     let century = two_at(s, body, n, 0) as u16;
     date_at(s, body, n, 4, 100 * century + two_at(s, body, n, 2) as u16)

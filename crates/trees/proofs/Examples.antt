@@ -7,6 +7,7 @@ use Rattle.trees.specs.Trees.{lengthOctets, element, encode}
 use Rattle.trees.specs.Reading.{treesOf, treeOf, parse}
 use Rattle.trees.specs.Examples.{TreeExample, treeExamples}
 use Rattle.octets.specs.Octets.{octetsFrom}
+use Rattle.texts.specs.Texts.{word}
 use Rattle.octets.specs.Numbers.{numberFrom}
 use Rattle.der.specs.Header.{headOf, childrenOf, childrenBy}
 use Rattle.der.specs.Contents.{arcsOk, primitiveOk, elementOk}
@@ -17,17 +18,17 @@ use Rattle.der.specs.Soundness.{first, soundness, stretchSoundness, derSoundnes
 use Rattle.der.specs.declared.walk.Soundness.the-variants.{Sound}
 
 pub encoded : map (λ (e : TreeExample). encode (e .tree)) treeExamples ≡ map (λ (e : TreeExample). e .octets) treeExamples
-unfolding treeExamples encode element lengthOctets numberBy typeNumber contents integerOctets bitStringOctets packed unused oid subidentifiers
+unfolding treeExamples word encode element lengthOctets numberBy typeNumber contents integerOctets bitStringOctets packed unused oid subidentifiers
     subidentifier sevens
 encoded = refl
 
 pub parsed : map (λ (e : TreeExample). parse (e .octets)) treeExamples ≡ map (λ (e : TreeExample). e .tree) treeExamples
-unfolding treeExamples parse treeOf treesOf headOf childrenOf childrenBy octetsFrom numberFrom numberBy typeNumber contents integerOctets bitStringOctets packed
-    unused oid subidentifiers subidentifier sevens
+unfolding treeExamples word parse treeOf treesOf headOf childrenOf childrenBy octetsFrom numberFrom numberBy typeNumber contents integerOctets bitStringOctets
+    packed unused oid subidentifiers subidentifier sevens
 parsed = refl
 
 pub judged : map (λ (e : TreeExample). derSoundness (e .octets)) treeExamples ≡ map (λ (e : TreeExample). Sound) treeExamples
-unfolding treeExamples stretchSoundness soundness first elementsOf elementOk primitiveOk arcsOk ascendFrom octetsLe headOf childrenOf childrenBy
+unfolding treeExamples word stretchSoundness soundness first elementsOf elementOk primitiveOk arcsOk ascendFrom octetsLe headOf childrenOf childrenBy
     octetsFrom numberFrom
 judged = refl
 

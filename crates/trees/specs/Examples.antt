@@ -1,11 +1,13 @@
 -- X.690's own examples, proved in proofs/Examples.antt.
-use mathlib.Core.List.{List, [], _∷_}
+use mathlib.Core.List.{List, [], _∷_, _++_}
 use mathlib.Core.Bool.{Bool, true}
 use Prim.Native.Nat.{ℕ, _/_, _%_}
 use lib.Dec.{eqb}
 use lib.IntN.{pos, negsuc}
 use Rattle.trees.specs.Values.{Value, boolean, integer, bitString, null, identifier, typeNumber, contents}
 use Rattle.trees.specs.Trees.{Class, universal, application, contextSpecific, Tag, Tree, primitive, constructed, nothing, _then_}
+use Rattle.texts.specs.Texts.{word}
+use Rattle.der.specs.Tags.{sequenceNumber, ia5StringTag, visibleStringTag}
 
 pub record TreeExample : Type 0 where
   pub tree : Tree
@@ -24,10 +26,10 @@ hex [] = []
 hex (d ∷ ds) = eqb (d / 8 % 2) 1 ∷ eqb (d / 4 % 2) 1 ∷ eqb (d / 2 % 2) 1 ∷ eqb (d % 2) 1 ∷ hex ds
 
 abbrev smith : List ℕ
-smith = 0x53 ∷ 0x6D ∷ 0x69 ∷ 0x74 ∷ 0x68 ∷ []
+smith = word "Smith"
 
 abbrev jones : List ℕ
-jones = 0x4A ∷ 0x6F ∷ 0x6E ∷ 0x65 ∷ 0x73 ∷ []
+jones = word "Jones"
 
 -- Type2 of 8.14.3, [APPLICATION 3] IMPLICIT VisibleString
 abbrev type2 : Tree
@@ -46,11 +48,11 @@ treeExamples =
     ∷ record { tree = element null; octets = 0x05 ∷ 0x00 ∷ [] }
     -- 8.9.3, a SEQUENCE of the IA5String "Smith" and TRUE
     ∷ record {
-      tree = constructed (tag universal 16) (primitive (tag universal 22) smith then element (boolean true) then nothing);
-      octets = 0x30 ∷ 0x0A ∷ 0x16 ∷ 0x05 ∷ 0x53 ∷ 0x6D ∷ 0x69 ∷ 0x74 ∷ 0x68 ∷ 0x01 ∷ 0x01 ∷ 0xFF ∷ [];
+      tree = constructed (tag universal sequenceNumber) (primitive (tag universal ia5StringTag) smith then element (boolean true) then nothing);
+      octets = 0x30 ∷ 0x0A ∷ 0x16 ∷ 0x05 ∷ smith ++ 0x01 ∷ 0x01 ∷ 0xFF ∷ [];
     }
     -- 8.14.3, the VisibleString "Jones" as Type1; Type2; Type3, [2] Type2; Type4, [APPLICATION 7] IMPLICIT Type3; Type5, [2] IMPLICIT Type2
-    ∷ record { tree = primitive (tag universal 26) jones; octets = 0x1A ∷ 0x05 ∷ jones }
+    ∷ record { tree = primitive (tag universal visibleStringTag) jones; octets = 0x1A ∷ 0x05 ∷ jones }
     ∷ record { tree = type2; octets = 0x43 ∷ 0x05 ∷ jones }
     ∷ record { tree = constructed (tag contextSpecific 2) (type2 then nothing); octets = 0xA2 ∷ 0x07 ∷ 0x43 ∷ 0x05 ∷ jones }
     ∷ record { tree = constructed (tag application 7) (type2 then nothing); octets = 0x67 ∷ 0x07 ∷ 0x43 ∷ 0x05 ∷ jones }

@@ -1,9 +1,10 @@
 -- Octets read back as a tree, by the headers and lists of elements that the linter goes by.
 use mathlib.Core.List.{List, [], _∷_}
 use mathlib.Core.Bool.{cond}
-use Prim.Native.Nat.{ℕ, zero, suc, _%_, _/_}
+use Prim.Native.Nat.{ℕ, zero, suc, _/_}
 use lib.ListN.{length}
 use Rattle.trees.specs.Trees.{Class, universal, application, contextSpecific, private, Tag, Tree, Trees, primitive, constructed, nothing, _then_}
+use Rattle.der.specs.Tags.{tagNumber}
 use Rattle.der.specs.Header.{headOf, childrenOf}
 use Rattle.der.specs.Contents.{constructed as isConstructed, contentsOf}
 use Rattle.der.specs.declared.header.Head.{Head}
@@ -15,7 +16,7 @@ classOf (suc (suc zero)) = contextSpecific
 classOf (suc (suc (suc n))) = private
 
 abbrev pub tagOf : ℕ → Tag
-tagOf identifier = record { class = classOf (identifier / 64); number = identifier % 32 }
+tagOf identifier = record { class = classOf (identifier / 64); number = tagNumber identifier }
 
 unfoldable pub treesOf : (Head → Tree) → List Head → Trees
 treesOf f [] = nothing

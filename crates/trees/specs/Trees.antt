@@ -8,6 +8,7 @@ use lib.Dec.{ltb}
 use Rattle.trees.specs.Numbers.{numberOctets}
 use Rattle.trees.specs.Values.{Says}
 use Rattle.octets.specs.Octets.{Octets}
+use Rattle.der.specs.Tags.{setNumber}
 use Rattle.der.specs.Contents.{holdsElements}
 use Rattle.der.specs.Order.{octetsLe}
 
@@ -78,8 +79,8 @@ TagOk tag = (tag .number < 31) × (tag ≡ reserved → ⊥)
 abbrev pub LengthOk : List ℕ → Type 0
 LengthOk contents = length (numberOctets (length contents)) < 127
 
--- The contents of a universal type are those of a value of it (specs/Values.antt), and its form is right: 8, 11, 16, 17 and 29 are constructed, all
--- others primitive, since no string is in pieces (10.2).
+-- The contents of a universal type are those of a value of it (specs/Values.antt), and its form is right: those that hold elements are
+-- constructed, all others primitive, since no string is in pieces (10.2).
 unfoldable mutual
   pub Good : Tree → Type 0
   Good (primitive tag contents) = TagOk tag × LengthOk contents × (tag .class ≡ universal → Says (tag .number) contents) × Octets contents
@@ -121,13 +122,13 @@ unfoldable pub encodings : Trees → List (List ℕ)
 encodings nothing = []
 encodings (t then ts) = encode t ∷ encodings ts
 
-abbrev pub setTag : Tag
-setTag = record { class = universal; number = 17 }
+abbrev pub universalSet : Tag
+universalSet = record { class = universal; number = setNumber }
 
 unfoldable mutual
   pub SetsOrdered : Tree → Type 0
   SetsOrdered (primitive tag contents) = Unit {0}
-  SetsOrdered (constructed tag ts) = (tag ≡ setTag → Ascending (encodings ts)) × AllSetsOrdered ts
+  SetsOrdered (constructed tag ts) = (tag ≡ universalSet → Ascending (encodings ts)) × AllSetsOrdered ts
 
   pub AllSetsOrdered : Trees → Type 0
   AllSetsOrdered nothing = Unit {0}

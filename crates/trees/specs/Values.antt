@@ -7,6 +7,7 @@ use lib.Dec.{eqb}
 use lib.IntN.{ℤ, pos, negsuc}
 use Rattle.trees.specs.Numbers.{signedOctets}
 use Rattle.octets.specs.Octets.{Octets}
+use Rattle.der.specs.Tags.{booleanTag, integerTag, bitStringTag, nullTag, objectIdentifierTag, enumeratedTag}
 use Rattle.der.specs.Contents.{holdsElements}
 use Rattle.der.specs.Oids.{oid}
 
@@ -56,7 +57,7 @@ Arcs [] = ⊥
 Arcs (x ∷ []) = ⊥
 Arcs (x ∷ y ∷ arcs) = (x < 3) × (x < 2 → y < 40)
 
--- ---- a value, with the number of its type (Table 1 of X.680); of the other types every string of octets is contents
+-- ---- a value, with the number of its type, which is the tag of a primitive element; of the other types every string of octets is contents
 
 pub data Value : Type 0 where
   boolean : Bool → Value  -- 8.2
@@ -67,12 +68,12 @@ pub data Value : Type 0 where
   other : ℕ → List ℕ → Value
 
 unfoldable pub typeNumber : Value → ℕ
-typeNumber (boolean v) = 1
-typeNumber (integer v) = 2
-typeNumber (bitString v) = 3
-typeNumber null = 5
-typeNumber (identifier v) = 6
-typeNumber (enumerated v) = 10
+typeNumber (boolean v) = booleanTag
+typeNumber (integer v) = integerTag
+typeNumber (bitString v) = bitStringTag
+typeNumber null = nullTag
+typeNumber (identifier v) = objectIdentifierTag
+typeNumber (enumerated v) = enumeratedTag
 typeNumber (other number v) = number
 
 unfoldable pub contents : Value → List ℕ
@@ -86,7 +87,9 @@ contents (other number v) = v
 
 -- those types: no rule above is theirs, and they hold no elements
 abbrev pub ruled : ℕ → Bool
-ruled n = eqb n 1 || (eqb n 2 || (eqb n 3 || (eqb n 5 || (eqb n 6 || eqb n 10))))
+ruled n =
+    eqb n booleanTag
+    || (eqb n integerTag || (eqb n bitStringTag || (eqb n nullTag || (eqb n objectIdentifierTag || eqb n enumeratedTag))))
 
 abbrev pub Other : ℕ → Type 0
 Other n = (ruled n ≡ false) × (holdsElements n ≡ false)

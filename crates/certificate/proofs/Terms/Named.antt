@@ -17,6 +17,7 @@ use Rattle.der.specs.Contents.{contentsOf}
 use Rattle.der.specs.Elements.{elementsOf, isEmpty}
 use Rattle.der.specs.Soundness.{soundness, stretchSoundness}
 use Rattle.der.specs.declared.walk.Soundness.the-variants.{Sound}
+use Rattle.der.specs.Tags.{sequenceTag}
 use Rattle.der.specs.declared.header.Head.{Head}
 use Rattle.times.specs.Reads.{timeOf}
 use Rattle.times.specs.declared.reading.Reading.the-variants.{Is}
@@ -58,7 +59,7 @@ pub data CriticalNamed : Bool → List Head → Type 0 where
 
 pub record ExtensionNamed (s : List ℕ) (h : Head) : Type 0 where
   pub boolean : List Head
-  pub tag : h .tag ≡ 0x30
+  pub tag : h .tag ≡ sequenceTag
   pub is : membersIn s h ≡ firstIn s h ∷ (boolean ++ (extensionOf s h .value ∷ []))
   pub identifier-fits : fits objectIdentifier s (firstIn s h) ≡ Fits
   pub boolean-fits : Optional booleanTrue s boolean

@@ -11,7 +11,7 @@ use native.Mathlib.Omega.{arith}
 use lib.ListN.{length, length-append}
 use lib.Dec.{leb}
 use Rattle.trees.specs.Trees.{Tag, Tree, Trees, primitive, constructed, nothing, _then_, identifierOctet, element, encode, encodeAll, Good}
-use Rattle.trees.specs.Trees.{AllGood, height, heightAll, Ascending, encodings, setTag, SetsOrdered, AllSetsOrdered}
+use Rattle.trees.specs.Trees.{AllGood, height, heightAll, Ascending, encodings, universalSet, SetsOrdered, AllSetsOrdered}
 use Rattle.trees.specs.Reading.{tagOf, treesOf, treeOf}
 use Rattle.trees.specs.Outline.{lineOf, outline, outlineAll}
 use Rattle.der.specs.Header.{wholeHead, headOf, childrenOf}
@@ -107,7 +107,7 @@ read-plain d s at end tag c rest w g e =
 
 -- the order of a SET's members, by the octets that are read and by the tree
 set-order : (tag : Tag) (ts : Trees) (xs : List (List ℕ)) → tag .number < 31 → AllGood ts → xs ≡ encodings ts
-    → (identifierOctet 1 tag ≡ 49 → ascending xs ≡ true) ↔ (tag ≡ setTag → Ascending (encodings ts))
+    → (identifierOctet 1 tag ≡ 49 → ascending xs ≡ true) ↔ (tag ≡ universalSet → Ascending (encodings ts))
 set-order tag ts xs low g p =
     let a = ascending-same ts g in (
       (λ f e. a .0 (sym (ap ascending p) ∙ f (ap (identifierOctet 1) e))),

@@ -1,17 +1,17 @@
 -- `octets::lower_case` meets its contract. Assumes nothing.
 use borrow.Author.Needs.{needs}
-use borrow.Author.Tests.{lt-ltb, le-ltb}
+use borrow.Author.Tests.{le-leb, lt-leb}
 use Rattle.octets.proofs.comparing.lower_case.Statement.{statement}
 use Rattle.octets.proofs.comparing.lower_case.Tie as tie
 
 returns : tie.Need-returns
-returns c = simp (lt-ltb _ _ (c .if1 .taken))
+returns c = simp (lt-leb _ _ (c .if1 .taken))
 
 returns-2 : tie.Need-returns-2
-returns-2 c = simp (le-ltb _ _ (c .before .if1 .left), lt-ltb _ _ (c .if2 .taken))
+returns-2 c = simp (le-leb _ _ (c .before .if1 .left), le-leb _ _ (c .if2 .taken))
 
 returns-3 : tie.Need-returns-3
-returns-3 c = simp (le-ltb _ _ (c .before .if1 .left), le-ltb _ _ (c .if2 .left))
+returns-3 c = simp (le-leb _ _ (c .before .if1 .left), lt-leb _ _ (c .if2 .left))
 
 pub lower-case-spec : {M : Type 1} → statement M
 lower-case-spec = tie.close (tie.spec returns (λ c. search needs) returns-2 returns-3)

@@ -3,7 +3,7 @@ use mathlib.Core.Path.{_≡_, sym, _∙_}
 use mathlib.Core.Bool.{true}
 use borrow.Author.Tests.{not-true, not-false}
 use borrow.Author.Needs.{needs}
-use Rattle.texts.specs.Numerals.{isDecimalDigit}
+use Rattle.octets.specs.Characters.{isDigit}
 use Rattle.texts.proofs.Laws.Numerals.{append-other, append-large, append-digit, digit-from}
 use Rattle.texts.proofs.numerals.append.Statement.{statement}
 use Rattle.texts.proofs.numerals.append.Tie as tie
@@ -14,7 +14,7 @@ is-digit-requires c κs = search needs
 returns : tie.Need-returns
 returns c = append-other _ _ (sym (c .before .is-digit .ensures) ∙ not-true (c .before .is-digit .result) (c .if1 .taken))
 
-digit : (c : tie.Else1) → isDecimalDigit (c .before .before .args .c) ≡ true
+digit : (c : tie.Else1) → isDigit (c .before .before .args .c) ≡ true
 digit c = sym (c .before .is-digit .ensures) ∙ not-false (c .before .is-digit .result) (c .if1 .left)
 
 mul-next : tie.Need-mul-next

@@ -5,14 +5,15 @@ use native.Mathlib.Nat.{sub-zero}
 use native.Mathlib.Omega.{arith}
 use borrow.Author.Needs.{needs}
 use borrow.Author.Tests.{not-true, not-false}
-use Rattle.times.specs.Reads.{allDigits, digitsFirst}
+use Rattle.times.specs.Reads.{digitsFirst}
+use Rattle.octets.specs.Characters.{areDigits}
 use Rattle.octets.specs.Octets.{octetsFrom}
 use Rattle.times.proofs.Laws.Reads.{digits-good, digits-bad, digits-done}
 use Rattle.times.proofs.reading.digits_first.Statement.{statement}
 use Rattle.times.proofs.reading.digits_first.Tie as tie
 
 abbrev Inv-loop : tie.InvT-loop
-Inv-loop s body n digits k₀ k = digitsFirst digits (octetsFrom s body n) ≡ allDigits (octetsFrom (octetsFrom s body n) k (digits - k))
+Inv-loop s body n digits k₀ k = digitsFirst digits (octetsFrom s body n) ≡ areDigits (octetsFrom (octetsFrom s body n) k (digits - k))
 
 abbrev μ-loop : tie.MeasureT-loop
 μ-loop s body n digits k₀ k = digits - k

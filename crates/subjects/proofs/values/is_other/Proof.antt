@@ -1,8 +1,8 @@
--- `subjects::texts::is_other` meets its contract. Assumes nothing.
+-- `subjects::values::is_other` meets its contract. Assumes nothing.
 use borrow.Author.Tests.{eq-eqb, ne-eqb}
 use Rattle.subjects.specs.Texts.{isOther}
-use Rattle.subjects.proofs.texts.is_other.Statement.{statement}
-use Rattle.subjects.proofs.texts.is_other.Tie as tie
+use Rattle.subjects.proofs.values.is_other.Statement.{statement}
+use Rattle.subjects.proofs.values.is_other.Tie as tie
 
 returns : tie.Need-returns
 unfolding isOther

@@ -1,6 +1,6 @@
--- `subjects::texts::says_text` meets its contract. Assumes nothing.
-use Rattle.subjects.proofs.texts.says_text.Statement.{statement}
-use Rattle.subjects.proofs.texts.says_text.Tie as tie
+-- `subjects::values::says_text` meets its contract. Assumes nothing.
+use Rattle.subjects.proofs.values.says_text.Statement.{statement}
+use Rattle.subjects.proofs.values.says_text.Tie as tie
 
 returns : tie.Need-returns
 returns c = rw (← c .before .before .attribute-value .ensures, c .before .if1 .taken) (c .contents-are .ensures)
