@@ -13,15 +13,6 @@ type Key = (String, String, String);
 /// What each name stands for in a file.
 type Scope = BTreeMap<String, Key>;
 
-/// Definitions that nothing reaches yet, each with what it waits for.
-const WAITING: &[(&str, &str)] = &[
-    ("weight", "the table of rules as bits: how `judged_in` goes about it, until it moves to `Workings`"),
-    ("hasBit", "the same"),
-    ("octetsFor", "the same"),
-    ("isMandatory", "the rules 301 to 310 said by document 01's table of extensions"),
-    ("isJudged", "the rules 321 to 350 said by that table"),
-];
-
 fn is_working(key: &Key) -> bool {
     key.1.split('.').next() == Some("Workings")
 }
@@ -38,9 +29,9 @@ fn words(text: &str) -> BTreeSet<&str> {
         .collect()
 }
 
-/// The word by which a text uses a name: `and` for `_and_`.
+/// The word by which a text uses a name: `and` for `_and_`, `for` for `_for_⦂_`.
 fn word_of(name: &str) -> &str {
-    name.trim_matches('_')
+    name.split('_').find(|part| !part.is_empty()).unwrap_or(name)
 }
 
 /// The crate and the module of a path into some crate's `specs`, save the types that its code declares.
@@ -249,14 +240,9 @@ fn no_other_definition_names_a_working() {
 fn every_other_definition_is_reached_from_a_contract_or_a_statement() {
     let definitions = Definitions::read();
     let reached = definitions.reached(roots(&definitions));
-    let is_waiting = |key: &&Key| WAITING.iter().any(|(name, _)| *name == key.2);
-    let left: BTreeSet<&Key> =
-        definitions.texts.keys().filter(|key| !is_working(key) && !reached.contains(*key)).collect();
-    let bad: Vec<String> = left.iter().filter(|key| !is_waiting(key)).map(|key| shown(key)).collect();
+    let bad: Vec<String> =
+        definitions.texts.keys().filter(|key| !is_working(key) && !reached.contains(*key)).map(shown).collect();
     assert!(bad.is_empty(), "no contract and no statement needs these, so they belong elsewhere: {bad:#?}");
-    let met: Vec<&str> =
-        WAITING.iter().map(|(name, _)| *name).filter(|name| !left.iter().any(|key| key.2 == *name)).collect();
-    assert!(met.is_empty(), "no longer waiting, take them off the list: {met:?}");
 }
 
 #[test]

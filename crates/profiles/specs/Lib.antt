@@ -3,4 +3,4 @@ pub mod Fields
 pub mod Extensions
 pub mod Values
 pub mod Judged
-pub mod Bits
+pub mod Workings

@@ -2,7 +2,7 @@
 use crate::fields::Profile;
 ghost use mathlib.Core.Path.{_≡_};
 ghost use Rattle.profiles.specs.Judged.{judgedIn, judges};
-ghost use Rattle.profiles.specs.Bits.{weight, hasBit};
+ghost use Rattle.profiles.specs.Workings.Bits.{weight, hasBit};
 
 // The profiles that judge the rule, as bits: rules from 100 on, from 200, from 300, from 400.
 fn judged_in(rule: usize) -> u8

@@ -1,6 +1,7 @@
 -- "Refusals and their order" (document 01): a name for each number of the table, and the values of an answer. Every layer that refuses has an enum of
 -- its own, and takes its numbers from here.
 use mathlib.Core.Bool.{Bool, cond}
+use mathlib.Core.List.{List, [], _∷_}
 use Prim.Native.Nat.{ℕ}
 use Rattle.refusals.specs.declared.table.Values.{Values}
 
@@ -58,6 +59,19 @@ refused number side place = record { number = number; side = side; place = place
 abbrev pub unrefused : ℕ → Values
 unrefused count = record { number = 0; side = onNeither; place = 0; count = count }
 
--- "The first that applies, top to bottom": a row of the table where it applies, else what the rows below it give
-abbrev pub row : Bool → Values → Values → Values
-row applies values below = cond applies values below
+-- ---- the table
+
+-- a row: "No.", whether it applies ("given exactly when"), and "side, place"
+pub record RefusalRow : Type 0 where
+  pub number : ℕ
+  pub applies : Bool
+  pub side : ℕ
+  pub place : ℕ
+
+abbrev pub refusalRow : ℕ → ℕ → ℕ → Bool → RefusalRow
+refusalRow number side place applies = record { number = number; applies = applies; side = side; place = place }
+
+-- "The first that applies, top to bottom"; none of them applies to what is not refused
+abbrev pub firstThatApplies : List RefusalRow → Values → Values
+firstThatApplies [] otherwise = otherwise
+firstThatApplies (r ∷ rs) otherwise = cond (r .applies) (refused (r .number) (r .side) (r .place)) (firstThatApplies rs otherwise)

@@ -7,9 +7,9 @@ use mathlib.Core.Path.{_≡_, refl, sym, ap, subst, _∙_}
 use Prim.Native.Nat.{ℕ}
 use lib.Dec.{eqb}
 use borrow.Author.Tests.{eq-eqb}
-use Rattle.demands.specs.First.{RefusalRow, firstThatApplies, NoneApplies, GivenExactly, ByTable}
+use Rattle.demands.specs.First.{NoneApplies, GivenExactly, ByTable}
 use Rattle.octets.proofs.Laws.Tests.{and-l, and-r}
-use Rattle.refusals.specs.Table.{refused}
+use Rattle.refusals.specs.Table.{refused, RefusalRow, firstThatApplies}
 use Rattle.refusals.specs.declared.table.Values.{Values}
 
 abbrev same : RefusalRow → RefusalRow → Bool

@@ -6,7 +6,7 @@
 --     inadmissible-tabled, refusal-tabled     a refusal's number is 1 to 8, its side at most 2
 -- Assumes nothing.
 use mathlib.Core.Path.{_≡_, refl, sym, ap, _∙_}
-use mathlib.Core.List.{List}
+use mathlib.Core.List.{List, [], _∷_, _++_}
 use mathlib.Core.Bool.{Bool, true, false, cond, not}
 use Prim.Native.Nat.{ℕ, _≤_}
 use native.Mathlib.Omega.{arith}
@@ -14,7 +14,7 @@ use lib.Dec.{eqb}
 use lib.ListN.{length}
 use Rattle.lint.specs.Refusals.{sideNumber, inadmissibleValues, refusalValues, answerValues}
 use Rattle.lint.specs.Judging.{sideLengthOk, bySoundness, sideJudgement, orElse, bothSides, forProfile, admissionOf, onceAdmitted, judgementOf}
-use Rattle.lint.specs.Values.{profileRow, admissionRows, foundRow, sideRows, roomRow, lintValues}
+use Rattle.lint.specs.Values.{isUnknown, admissionTable, foundTable, sideTable, roomTable, foundUnder, lintValues}
 use Rattle.lint.specs.Answers.{answerTo, answerBy, answerOf, roomOf, Answered}
 use Rattle.lint.specs.declared.reasons.Side.{Side}
 use Rattle.lint.specs.declared.reasons.Side.the-variants.{Certificate, Issuer}
@@ -26,12 +26,12 @@ use Rattle.lint.specs.declared.judging.Judgement.{Judgement}
 use Rattle.lint.specs.declared.linting.Answer.{Answer}
 use Rattle.lint.specs.declared.linting.Answer.the-variants.{Report, Refused}
 use Rattle.refusals.specs.Table.{notSoundDer, setOutOfOrder, notCertificate, tooLittleRoom, wrongCertificateLength, wrongIssuerLength}
-use Rattle.refusals.specs.Table.{onNeither, onCertificate, onIssuer, refused, unrefused, row}
+use Rattle.refusals.specs.Table.{unknownProfile, onNeither, onCertificate, onIssuer, unrefused, RefusalRow, refusalRow, firstThatApplies}
 use Rattle.refusals.specs.declared.table.Values.{Values}
 use Rattle.refusals.proofs.Laws.Table.{Tabled, tabled}
-use Rattle.der.specs.Soundness.{derSoundness, soundnessNumber, soundnessPlace}
+use Rattle.der.specs.Soundness.{derSoundness}
 use Rattle.der.specs.declared.walk.Soundness.{Soundness}
-use Rattle.asn.specs.Answers.{certificateVerdict, verdictNumber, verdictPlace}
+use Rattle.asn.specs.Answers.{certificateVerdict}
 use Rattle.asn.specs.declared.fitting.Verdict.{Verdict}
 use Rattle.asn.specs.declared.fitting.Verdict.the-variants.{Stranger, Fits, Wrong}
 use Rattle.profiles.specs.Fields.{askedOf}
@@ -53,14 +53,18 @@ abbrev pub admissionValues : Admission → (Profile → Values) → Values
 admissionValues (Admissions.Refused r) below = inadmissibleValues r
 admissionValues (Admissions.Admitted p) below = below p
 
-pub admission-values : (certificate issuer profile : ℕ) (f g : Profile → Values) → ((p : Profile) → f p ≡ g p)
-    → admissionValues (admissionOf certificate issuer profile) f ≡ admissionRows certificate issuer profile g
+-- `rest` are the rows below them
+pub admission-values : (certificate issuer profile : ℕ) (f : Profile → Values) (rest : Asked → List RefusalRow) (otherwise : Asked → Values)
+    → ((p : Profile) → f p ≡ firstThatApplies (rest (For p)) (otherwise (For p)))
+    → admissionValues (admissionOf certificate issuer profile) f
+    ≡ firstThatApplies (admissionTable certificate issuer (askedOf profile) ++ rest (askedOf profile)) (otherwise (askedOf profile))
 unfolding admissionOf
-admission-values certificate issuer profile f g same = go (sideLengthOk certificate) (sideLengthOk issuer) (askedOf profile)
+admission-values certificate issuer profile f rest otherwise same = go (sideLengthOk certificate) (sideLengthOk issuer) (askedOf profile)
   where
     go : (a b : Bool) (asked : Asked)
         → admissionValues (cond a (cond b (forProfile asked) (Admissions.Refused IssuerLength)) (Admissions.Refused CertificateLength)) f
-        ≡ row (not a) (refused wrongCertificateLength onCertificate 0) (row (not b) (refused wrongIssuerLength onIssuer 0) (profileRow asked g))
+        ≡ firstThatApplies (refusalRow wrongCertificateLength onCertificate 0 (not a) ∷ refusalRow wrongIssuerLength onIssuer 0 (not b)
+        ∷ refusalRow unknownProfile onNeither 0 (isUnknown asked) ∷ rest asked) (otherwise asked)
     go true true (For p) = same p
     go true true Unknown = refl
     go true false asked = refl
@@ -73,17 +77,17 @@ abbrev judgementValues : Judgement → (Profile → Values) → Values
 judgementValues (Judgements.Refused r) below = refusalValues r
 judgementValues (Judgements.Accepted p) below = below p
 
-side-values : (p : Profile) (side : Side) (s : List ℕ) (below : Profile → Values)
-    → judgementValues (sideJudgement p side s) below ≡ sideRows (sideNumber side) s (below p)
+side-values : (p : Profile) (side : Side) (s : List ℕ) (below : Profile → Values) (rest : List RefusalRow) (otherwise : Values)
+    → below p ≡ firstThatApplies rest otherwise
+    → judgementValues (sideJudgement p side s) below ≡ firstThatApplies (sideTable (sideNumber side) s ++ rest) otherwise
 unfolding sideJudgement
-side-values p side s below = go (derSoundness s) (certificateVerdict s)
+side-values p side s below rest otherwise e = go (derSoundness s) (certificateVerdict s)
   where
     go : (d : Soundness) (v : Verdict)
-        → judgementValues (bySoundness p side d v) below
-        ≡ foundRow (soundnessNumber d) (sideNumber side) (soundnessPlace d) (foundRow (verdictNumber v) (sideNumber side) (verdictPlace v) (below p))
+        → judgementValues (bySoundness p side d v) below ≡ firstThatApplies (foundTable (sideNumber side) d v ++ rest) otherwise
     go (Soundnesses.Unsound place) v = refl
     go (Soundnesses.Unordered place) v = refl
-    go Soundnesses.Sound Fits = refl
+    go Soundnesses.Sound Fits = e
     go Soundnesses.Sound (Wrong place) = refl
     go Soundnesses.Sound Stranger = refl
 
@@ -92,13 +96,15 @@ else-values : (a b : Judgement) (below : Profile → Values)
 else-values (Judgements.Refused r) b below = refl
 else-values (Judgements.Accepted p) b below = refl
 
-both-values : (p : Profile) (certificate issuer : List ℕ) (below : Profile → Values)
-    → judgementValues (bothSides p certificate issuer) below ≡ sideRows onCertificate certificate (sideRows onIssuer issuer (below p))
+both-values : (p : Profile) (certificate issuer : List ℕ) (below : Profile → Values) (rest : List RefusalRow) (otherwise : Values)
+    → below p ≡ firstThatApplies rest otherwise
+    → judgementValues (bothSides p certificate issuer) below
+    ≡ firstThatApplies (sideTable onCertificate certificate ++ (sideTable onIssuer issuer ++ rest)) otherwise
 unfolding bothSides
-both-values p certificate issuer below =
+both-values p certificate issuer below rest otherwise e =
     else-values (sideJudgement p Certificate certificate) (sideJudgement p Issuer issuer) below
-    ∙ side-values p Certificate certificate (λ q. judgementValues (sideJudgement p Issuer issuer) below)
-    ∙ ap (sideRows onCertificate certificate) (side-values p Issuer issuer below)
+    ∙ side-values p Certificate certificate (λ q. judgementValues (sideJudgement p Issuer issuer) below) (sideTable onIssuer issuer ++ rest) otherwise
+    (side-values p Issuer issuer below rest otherwise e)
 
 once-values : (a : Admission) (certificate issuer : List ℕ) (below : Profile → Values)
     → judgementValues (onceAdmitted a certificate issuer) below ≡ admissionValues a (λ p. judgementValues (bothSides p certificate issuer) below)
@@ -107,16 +113,22 @@ once-values (Admissions.Admitted p) certificate issuer below = refl
 
 -- ---- refusal 7
 
-room-values : (es : List Entry) (room : List ℕ) → answerValues (answerTo es room) ≡ roomRow es room
+-- what is given once 1 to 6 do not apply
+abbrev roomValues : List Entry → List ℕ → Values
+roomValues es room = firstThatApplies (roomTable es room) (unrefused (length es))
+
+room-values : (es : List Entry) (room : List ℕ) → answerValues (answerTo es room) ≡ roomValues es room
 unfolding answerTo
 room-values es room = go (enoughRoom es room)
   where
-    go : (b : Bool) → answerValues (cond b (Report (length es)) (Refused NoRoom)) ≡ row (not b) (refused tooLittleRoom onNeither 0) (unrefused (length es))
+    go : (b : Bool)
+        → answerValues (cond b (Report (length es)) (Refused NoRoom))
+        ≡ firstThatApplies (refusalRow tooLittleRoom onNeither 0 (not b) ∷ []) (unrefused (length es))
     go true = refl
     go false = refl
 
 answer-by : (j : Judgement) (certificate issuer room : List ℕ)
-    → answerValues (answerBy j certificate issuer room) ≡ judgementValues j (λ p. roomRow (findings p certificate issuer) room)
+    → answerValues (answerBy j certificate issuer room) ≡ judgementValues j (λ p. roomValues (findings p certificate issuer) room)
 answer-by (Judgements.Refused r) certificate issuer room = refl
 answer-by (Judgements.Accepted p) certificate issuer room = room-values (findings p certificate issuer) room
 
@@ -126,11 +138,13 @@ pub lint-values : (certificate issuer : List ℕ) (profile : ℕ) (room : List �
     → answerValues (answerOf certificate issuer profile room) ≡ lintValues certificate issuer profile room
 unfolding answerOf judgementOf lintValues
 lint-values certificate issuer profile room =
-    let below : Profile → Values = λ p. roomRow (findings p certificate issuer) room in
+    let below : Profile → Values = λ p. roomValues (findings p certificate issuer) room in
+    let es : Asked → List Entry = λ asked. foundUnder asked certificate issuer in
     answer-by (onceAdmitted (admissionOf (length certificate) (length issuer) profile) certificate issuer) certificate issuer room
     ∙ once-values (admissionOf (length certificate) (length issuer) profile) certificate issuer below
     ∙ admission-values (length certificate) (length issuer) profile (λ p. judgementValues (bothSides p certificate issuer) below)
-    (λ p. sideRows onCertificate certificate (sideRows onIssuer issuer (below p))) (λ p. both-values p certificate issuer below)
+    (λ asked. sideTable onCertificate certificate ++ (sideTable onIssuer issuer ++ roomTable (es asked) room)) (λ asked. unrefused (length (es asked)))
+    (λ p. both-values p certificate issuer below (roomTable (es (For p)) room) (unrefused (length (es (For p)))) refl)
 
 pub answered : {certificate issuer : List ℕ} {profile : ℕ} {room : List ℕ} {r : Answer} {last : List ℕ}
     → r ≡ answerOf certificate issuer profile room → last ≡ roomOf certificate issuer profile room → Answered certificate issuer profile room r last

@@ -1,4 +1,5 @@
 -- The code's tables say what the table of rules and profiles says.
+--     octetsFor       a table of the code
 --     table-right     an octet of a table of the code, over the rules that it serves
 --     last-right      the same of the table that also serves all numbers behind the last rule
 --     bit-right       a profile's bit, whatever the rule
@@ -6,14 +7,14 @@
 use mathlib.Core.Path.{_≡_, refl, sym, ap, _∙_}
 use mathlib.Core.List.{List, [], _∷_}
 use mathlib.Core.Bool.{Bool, true, false, cond, _&&_}
-use Prim.Native.Nat.{ℕ, _+_, _-_, _<_, _≤_}
+use Prim.Native.Nat.{ℕ, zero, suc, _+_, _-_, _<_, _≤_}
 use native.Mathlib.Omega.{arith}
 use lib.Dec.{ltb, eqb}
 use lib.ListN.{length}
 use borrow.Author.Tests.{eqb-true, ne-eqb, ltb-true, ltb-false}
 use Rattle.profiles.specs.Fields.{profileNumber}
 use Rattle.profiles.specs.Judged.{ruleTable, ruleLimit, rowOf, judgedIn, isOneOf, judgedBy, judges}
-use Rattle.profiles.specs.Bits.{weight, hasBit}
+use Rattle.profiles.specs.Workings.Bits.{weight, hasBit}
 use Rattle.profiles.specs.declared.fields.Profile.{Profile}
 use Rattle.profiles.specs.declared.fields.Profile.the-variants.{Domain, Organization, Responder}
 use Rattle.octets.specs.Octets.{octetAt}
@@ -22,6 +23,11 @@ use Rattle.octets.proofs.Laws.Finite.{allBelow, all-below, same, same-true}
 use Rattle.octets.proofs.Laws.Octets.{past}
 
 -- ---- a table, by one computed test
+
+-- the octets of n rules from `from` on
+unfoldable pub octetsFor : ℕ → ℕ → List ℕ
+octetsFor from zero = []
+octetsFor from (suc n) = weight (judgedIn from) ∷ octetsFor (from + 1) n
 
 -- of the rules from `low` on, n of them, the table t has octets from that of rule `from` on
 unfoldable pub rightFor : List ℕ → ℕ → ℕ → ℕ → Bool

@@ -4,8 +4,8 @@ use native.Mathlib.Omega.{arith}
 use borrow.Author.Needs.{needs}
 use Rattle.octets.proofs.Laws.Finite.{allBelow}
 use Rattle.profiles.specs.Judged.{judgedIn, rowOf}
-use Rattle.profiles.specs.Bits.{weight, octetsFor}
-use Rattle.profiles.proofs.Laws.Judged.{rightFor, table-right, last-right}
+use Rattle.profiles.specs.Workings.Bits.{weight}
+use Rattle.profiles.proofs.Laws.Judged.{octetsFor, rightFor, table-right, last-right}
 use Rattle.profiles.proofs.judged.judged_in.Statement.{statement}
 use Rattle.profiles.proofs.judged.judged_in.Tie as tie
 

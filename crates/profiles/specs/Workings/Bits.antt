@@ -1,9 +1,9 @@
 -- The profiles that judge a rule, as the bits of one number: 1, 2, 4 and so on for profiles 1, 2, 3 and so on.
+-- How the code goes about it: named by contracts of functions that no other crate can call, and by nothing else of `specs/`.
 use mathlib.Core.Bool.{Bool}
 use mathlib.Core.List.{List, [], _∷_}
-use Prim.Native.Nat.{ℕ, zero, suc, _+_, _-_, _/_, _%_, _^_}
+use Prim.Native.Nat.{ℕ, _+_, _-_, _/_, _%_, _^_}
 use lib.Dec.{eqb}
-use Rattle.profiles.specs.Judged.{judgedIn}
 use Rattle.profiles.specs.declared.fields.Profile.{Profile}
 use Rattle.profiles.specs.declared.fields.Profile.the-variants.{Domain, Organization, Responder}
 
@@ -16,8 +16,3 @@ abbrev pub hasBit : Profile → ℕ → Bool
 hasBit Domain bits = eqb (bits % 2) 1
 hasBit Organization bits = eqb (bits / 2 % 2) 1
 hasBit Responder bits = eqb (bits / 4 % 2) 1
-
--- the octets of n rules from `from` on
-unfoldable pub octetsFor : ℕ → ℕ → List ℕ
-octetsFor from zero = []
-octetsFor from (suc n) = weight (judgedIn from) ∷ octetsFor (from + 1) n
