@@ -10,17 +10,17 @@ use mathlib.Core.Path.{_≡_}
 use Prim.Native.Nat.{ℕ, _*_, _<_}
 use lib.ListN.{getD, drop}
 use Rattle.der.specs.declared.header.Head.{Head}
+use Rattle.profiles.specs.Fields.{askedOf}
 use Rattle.profiles.specs.Judged.{judgedBy}
 use Rattle.profiles.specs.declared.fields.Profile.{Profile}
+use Rattle.profiles.specs.declared.fields.Asked.the-variants.{For}
 use Rattle.certificate.specs.Issuer.{knownOf}
 use Rattle.report.specs.Entries.{width, decode}
 use Rattle.report.specs.Order.{In, RisingEntries}
 use Rattle.report.specs.Rows.{Row, BrokenIn}
 use Rattle.report.specs.declared.sink.Entry.{Entry}
 use Rattle.rules.specs.Rules.{rulesFor}
-use Rattle.lint.specs.Judging.{judgementOf}
 use Rattle.lint.specs.Answers.{Answered}
-use Rattle.lint.specs.declared.judging.Judgement.the-variants.{Accepted}
 use Rattle.lint.specs.declared.linting.Answer.{Answer}
 use Rattle.lint.specs.declared.linting.Answer.the-variants.{Report}
 use Rattle.places.specs.Statement.{AtElements}
@@ -50,7 +50,8 @@ pub record ExactReport (p : Profile) (certificate issuer room : List ℕ) (n : �
   pub rest : drop (width * n) last ≡ drop (width * n) room
 
 pub record Demand2 : Type 0 where
-  pub report : (p : Profile) (certificate issuer : List ℕ) (profile : ℕ) (room : List ℕ) (r : Answer) (n : ℕ) (last : List ℕ)
-      → judgementOf certificate issuer profile ≡ Accepted p → Answered certificate issuer profile room r last → r ≡ Report n
-      → ExactReport p certificate issuer room n last
+  -- what is not refused is answered with a report, for the profile of that number
+  pub report : (certificate issuer : List ℕ) (profile : ℕ) (room : List ℕ) (r : Answer) (n : ℕ) (last : List ℕ)
+      → Answered certificate issuer profile room r last → r ≡ Report n
+      → (p : Profile) × (askedOf profile ≡ For p) × ExactReport p certificate issuer room n last
   pub reads-back : (number : ℕ) (s : Submitted) → ReadsBack number s

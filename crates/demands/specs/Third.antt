@@ -68,6 +68,8 @@ listed hs total = linesOf hs ++ totalLine (record { records = howMany isRecord h
 pub record Recovered (ss : List Submitted) (deck : List ℕ) : Type 0 where
   -- "exactly the records none of whose blocks was spoiled, in their order, with the findings or the refusal that each would get alone", and the others lost
   pub reads : (room : List ℕ) (hs : List Handed) → ReadThrough deck 0 room hs → hs ≡ expected room 0 1 ss (blocks deck)
+  -- and steps do go through the deck, in any room
+  pub goes-through : (room : List ℕ) → (hs : List Handed) × ReadThrough deck 0 room hs
   -- "lists every other block once"
   pub once : (room : List ℕ) → OneBehindTheOther 0 (expected room 0 1 ss (blocks deck)) (length (blocks deck))
   -- and what the program prints, fill after fill, is that and nothing else

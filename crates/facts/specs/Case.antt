@@ -37,8 +37,8 @@ caseIn s k =
     }
 
 -- how the extension in slot k of the table stands
-abbrev pub extension : Case → ℕ → Standing
-extension f k = standingAt (f .table) k
+abbrev pub standingOf : Case → ℕ → Standing
+standingOf f k = standingAt (f .table) k
 
 -- ---- as the code has it
 

@@ -21,15 +21,28 @@ use Rattle.report.proofs.Laws.Order.{not-equal}
 use Rattle.rules.specs.Rules.{findings}
 use Rattle.rules.proofs.Laws.Findings.{finding-in, none-broken, findings-ordered}
 use Rattle.lint.specs.Judging.{judgementOf}
-use Rattle.lint.specs.Answers.{answerTo, answerOf, roomOf}
+use Rattle.lint.specs.Answers.{answerTo, answerBy, answerOf, roomOf}
+use Rattle.lint.specs.declared.judging.Judgement.{Judgement}
 use Rattle.lint.specs.declared.judging.Judgement.the-variants.{Accepted}
 use Rattle.lint.specs.declared.reasons.Refusal.the-variants.{NoRoom}
 use Rattle.lint.specs.declared.linting.Answer.the-variants.{Report, Refused}
-use Rattle.lint.proofs.Laws.Accepted.{accepted-fits}
+use Rattle.lint.proofs.Laws.Accepted.{accepted-fits, accepted-asked}
 use Rattle.lint.proofs.Laws.Order.{findings-back}
 use Rattle.lint.proofs.Laws.Statements.{findings-counted}
 use Rattle.places.proofs.Laws.Theorem.{places}
 use Rattle.recovery.proofs.Laws.Back.{reads-back}
+use Rattle.lint.specs.declared.judging.Judgement.the-variants as Judgements
+
+-- a report is given to what is accepted
+accepted-for : (certificate issuer : List ℕ) (profile : ℕ) (room : List ℕ) (n : ℕ) → answerOf certificate issuer profile room ≡ Report n
+    → (p : Profile) × (judgementOf certificate issuer profile ≡ Accepted p)
+unfolding answerOf
+accepted-for certificate issuer profile room n told = go (judgementOf certificate issuer profile) refl told
+  where
+    go : (j : Judgement) → judgementOf certificate issuer profile ≡ j → answerBy j certificate issuer room ≡ Report n
+        → (p : Profile) × (judgementOf certificate issuer profile ≡ Accepted p)
+    go (Judgements.Refused r) q e = let z : _≡_ {A = ℕ} 0 1 = cc e in absurd (omega arith)
+    go (Accepted p) q e = (p, q)
 
 -- a report is given where the room suffices
 enough : (es : List Entry) (room : List ℕ) (n : ℕ) → answerTo es room ≡ Report n → enoughRoom es room ≡ true
@@ -104,8 +117,13 @@ module _ (p : Profile) (certificate issuer : List ℕ) (profile : ℕ) (room : L
 pub demand-2 : Demand2
 demand-2 =
     record {
-      report = λ p certificate issuer profile room r n last j a e.
-          subst (λ (l : List ℕ). ExactReport p certificate issuer room n l) (sym (a .bytes))
-          (exact p certificate issuer profile room n j (sym (a .told) ∙ e));
+      report = λ certificate issuer profile room r n last a e.
+          let told = sym (a .told) ∙ e in
+          let j = accepted-for certificate issuer profile room n told in (
+            j .0,
+            accepted-asked certificate issuer profile (j .0) (j .1),
+            subst (λ (l : List ℕ). ExactReport (j .0) certificate issuer room n l) (sym (a .bytes))
+            (exact (j .0) certificate issuer profile room n (j .1) told),
+          );
       reads-back = reads-back;
     }

@@ -2,7 +2,7 @@
 use mathlib.Core.List.{List, [], _∷_, _++_, append-assoc}
 use mathlib.Core.Logic.{⊎-elim}
 use mathlib.Core.Path.{_≡_, refl, sym, ap, ap₂, subst, _∙_}
-use Prim.Native.Nat.{ℕ, suc, _+_, _*_, _^_, _≤_, _<_}
+use Prim.Native.Nat.{ℕ, zero, suc, _+_, _*_, _^_, _≤_, _<_}
 use native.Mathlib.Omega.{arith}
 use lib.ListN.{length, take}
 use Rattle.demands.specs.Third.{WrittenDeck, no-record, a-record, ReadThrough, at-end, an-item, isRecord, isLost, howMany, listed, Recovered, Demand3}
@@ -13,12 +13,13 @@ use Rattle.writer.proofs.Laws.Answers.{taken-only}
 use Rattle.writer.proofs.Laws.Statements.{rest-kept}
 use Rattle.reader.specs.Runs.{blocks}
 use Rattle.reader.specs.Events.{Event, record-at, lost-at, events, eventsFrom}
-use Rattle.reader.specs.Stepping.{itemBlocks}
+use Rattle.reader.specs.Stepping.{itemBlocks, itemAt, roomAt}
 use Rattle.reader.specs.Counting.{recordsIn, lostIn, tallyOf}
 use Rattle.reader.specs.Walking.{Handed, handedAt, allHandedOver}
 use Rattle.reader.specs.declared.stepping.Item.{Item}
 use Rattle.reader.proofs.Laws.Places.{from-nil}
-use Rattle.reader.proofs.Laws.Passing.{item-past}
+use Rattle.reader.proofs.Laws.Passing.{item-moves, item-past}
+use Rattle.reader.proofs.Laws.Stepping.{stepped}
 use Rattle.reader.proofs.Laws.Walking.{item-ended, room-stays, handed-next, walked}
 use Rattle.listing.specs.Lines.{totalLine}
 use Rattle.listing.specs.Listing.{linesOf, listingOf, programRoom}
@@ -68,6 +69,22 @@ read-handed {deck} {position} {room} (an-item r last s some later) other h =
     (read-handed later other stays ∙ ap (λ (x : Item). allHandedOver other (eventsFrom deck (position + itemBlocks x))) (s .told))
     ∙ sym (handed-next deck other position room h inside)
 
+-- each step goes on by a block at least, so there is an end
+goes : (deck : List ℕ) (n position : ℕ) (room : List ℕ) → length deck ≤ 512 * (position + n) → (hs : List Handed) × ReadThrough deck position room hs
+goes deck zero position room l =
+    ([], at-end (itemAt deck position room) (roomAt deck position room) (stepped refl refl) (item-ended deck position room (omega (arith, l))))
+goes deck (suc n) position room l =
+    ⊎-elim
+    (λ (k : 512 * position < length deck).
+        let moves = item-moves deck position room k in
+        let later = goes deck n (position + itemBlocks (itemAt deck position room)) (roomAt deck position room) (omega (arith, l, moves)) in (
+          handedAt position (itemAt deck position room) (roomAt deck position room) ∷ later .0,
+          an-item (itemAt deck position room) (roomAt deck position room) (stepped refl refl) (λ e. omega (arith, moves, ap itemBlocks e)) (later .1),
+        ))
+    (λ (k : length deck ≤ 512 * position).
+        ([], at-end (itemAt deck position room) (roomAt deck position room) (stepped refl refl) (item-ended deck position room k)))
+    (below-or-not (512 * position) (length deck))
+
 -- ---- counts
 
 module _ (room : List ℕ) where
@@ -106,6 +123,7 @@ module _ (ss : List Submitted) (was deck : List ℕ) (small : length ss < 2 ^ 32
   recovered =
       record {
         reads = λ room hs r. read-handed r room refl ∙ handed room;
+        goes-through = λ room. goes deck (length deck) 0 room (omega arith);
         once = λ room. each-once ss deck room small writable spoiled;
         prints = λ text short r.
             writes-printed deck text r

@@ -11,7 +11,7 @@ use mathlib.Core.Bool.{Bool, true, false, cond, false≢true}
 use Prim.Native.Nat.{ℕ, _<_}
 use lib.ListN.{getD}
 use native.Mathlib.Nat.{le-refl}
-use Rattle.facts.specs.Case.{caseIn, extension}
+use Rattle.facts.specs.Case.{caseIn, standingOf}
 use Rattle.facts.specs.Elements.{extensionsOf, Element}
 use Rattle.facts.specs.Elements.Topmost.{in-value}
 use Rattle.facts.proofs.Laws.Members.{AllElements, here, among, same-element, members-by, members-of}
@@ -147,5 +147,5 @@ module _ (s : List ℕ) (e : certificateVerdict s ≡ Fits) where
         go false t true u = tt
         go false t false u = extension-ok u
 
-    pub standing-ok : (known : Known) → 0 < k → StandingOk s k (extension (caseIn s known) k)
+    pub standing-ok : (known : Known) → 0 < k → StandingOk s k (standingOf (caseIn s known) k)
     standing-ok known m = subst (StandingOk s k) (standing-is s list k _ m l ∙ sym (table-at (standingIn s list) k m l)) slot-ok

@@ -67,7 +67,7 @@ item-values d i room = go (ltb (512 * i) (length d))
     go true = event-values room (eventAt d i)
     go false = refl
 
-stepped : {d : List ℕ} {i : ℕ} {room : List ℕ} {r : Item} {last : List ℕ} → r ≡ itemAt d i room → last ≡ roomAt d i room → Stepped d i room r last
+pub stepped : {d : List ℕ} {i : ℕ} {room : List ℕ} {r : Item} {last : List ℕ} → r ≡ itemAt d i room → last ≡ roomAt d i room → Stepped d i room r last
 stepped {d} {i} {room} e b = record { told = e; values = ap itemValues e ∙ item-values d i room; bytes = b }
 
 -- ---- the desk

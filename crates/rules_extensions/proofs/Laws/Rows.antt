@@ -18,7 +18,7 @@ use Rattle.profiles.specs.declared.fields.Profile.{Profile}
 use Rattle.certificate.specs.Fields.{certificateOf}
 use Rattle.certificate.specs.Issuer.{Known}
 use Rattle.certificate.specs.Standing.{Standing}
-use Rattle.facts.specs.Case.{caseIn, extension}
+use Rattle.facts.specs.Case.{caseIn, standingOf}
 use Rattle.facts.specs.Elements.{Element}
 use Rattle.facts.proofs.Laws.Slots.{in-list, list-place, StandingOk, standing-ok}
 use Rattle.report.specs.Forms.{filter}
@@ -47,7 +47,7 @@ module _ (s : List ℕ) (e : certificateVerdict s ≡ Fits) (p : Profile) (known
 
   over-ok : (question : Question) → RowsOk (Element s) (rowsOver question p (listPlace (certificateOf s)) (caseIn s known .table))
   unfolding rowsOver rowsFrom
-  over-ok question = slots-ok _ (λ k m l. by-standing question k (extension (caseIn s known) k) (standing-ok s e k l known m))
+  over-ok question = slots-ok _ (λ k m l. by-standing question k (standingOf (caseIn s known) k) (standing-ok s e k l known m))
 
   -- ---- identifiers
 

@@ -28,7 +28,7 @@ use Rattle.certificate.specs.Standing.{Standing}
 use Rattle.certificate.proofs.Laws.Named.{named}
 use Rattle.subjects.specs.Types.{attributeValue}
 use Rattle.hosts.specs.Names.{someNamed}
-use Rattle.facts.specs.Case.{caseIn, extension}
+use Rattle.facts.specs.Case.{caseIn, standingOf}
 use Rattle.facts.specs.Elements.{Element}
 use Rattle.facts.proofs.Laws.Members.{AllElements, AllMembers, many-fit, members-of}
 use Rattle.facts.proofs.Laws.Fields.{field-elements}
@@ -107,5 +107,5 @@ module _ (s : List ℕ) (e : certificateVerdict s ≡ Fits) where
       (more-rows (each 117 _)
       (more-rows (one 118 _)
       (more-rows (each 119 _)
-      (more-rows (cn-ok (extension (caseIn s k) 7))
+      (more-rows (cn-ok (standingOf (caseIn s k) 7))
       (more-rows (each-ok 121 _ (children-apart s (subject .end) (subject .body)) in-name) no-rows)))))))))

@@ -27,7 +27,7 @@ use Rattle.certificate.specs.declared.key.KeyKind.{KeyKind}
 use Rattle.certificate.specs.Standing.{Standing}
 use Rattle.certificate.specs.declared.extensions.Extension.{Extension}
 use Rattle.certificate.specs.Issuer.{KeyIdentifier, Known}
-use Rattle.facts.specs.Case.{caseIn, extension}
+use Rattle.facts.specs.Case.{caseIn, standingOf}
 use Rattle.facts.specs.Elements.{Element}
 use Rattle.facts.proofs.Laws.Members.{AllElements, AllMembers, members-of, listed-fit}
 use Rattle.facts.proofs.Laws.Slots.{GoodOk, StandingOk, standing-ok}
@@ -52,7 +52,7 @@ good-ok s k rule (Standing.good x v) f o g = g x v o
 
 module _ (s : List ℕ) (e : certificateVerdict s ≡ Fits) (known : Known) where
   abbrev standing : ℕ → Standing
-  standing k = extension (caseIn s known) k
+  standing k = standingOf (caseIn s known) k
 
   -- ---- by the rule's form
 
