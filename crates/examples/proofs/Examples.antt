@@ -24,7 +24,7 @@ use Rattle.report.specs.Rows.{brokenAt}
 use Rattle.rules_fields.specs.Period.{validityRows}
 use Rattle.rules_values.specs.Usage.{usageRows}
 use Rattle.profiles.specs.Fields.{askedOf}
-use Rattle.profiles.specs.Judged.{isOneOf}
+use Rattle.octets.specs.Octets.{isOneOf}
 use Rattle.lint.specs.Judging.{sideJudgement, bothSides, admissionOf, judgementOf}
 use Rattle.lint.specs.Answers.{answerOf, roomOf}
 use Rattle.blocks.specs.Tests.{_and_, between}

@@ -5,6 +5,7 @@ use Prim.Native.Nat.{ℕ}
 use Prim.Native.Char.{code}
 use lib.ListN.{length}
 use lib.Dec.{leb, eqb}
+use Rattle.octets.specs.Octets.{isOneOf}
 use Rattle.hosts.specs.Names.{isDnsName}
 use Rattle.hosts.specs.declared.hosts.Host.{Host}
 use Rattle.hosts.specs.declared.hosts.Host.the-variants.{Plain, Neither}
@@ -12,13 +13,9 @@ use Rattle.octets.specs.Characters.{isDigit, isLetter}
 use Rattle.der.specs.Contents.{lastOf, contentsOf}
 use Rattle.der.specs.declared.header.Head.{Head}
 
-unfoldable pub hasOctet : ℕ → List ℕ → Bool
-hasOctet x [] = false
-hasOctet x (b ∷ bs) = eqb b x || hasOctet x bs
-
 -- 413 "each dNSName with an underscore"
 abbrev pub hasUnderscore : List ℕ → Head → Bool
-hasUnderscore s h = isDnsName h && hasOctet (code "_") (contentsOf s h)
+hasUnderscore s h = isDnsName h && isOneOf (code "_") (contentsOf s h)
 
 -- "letters, digits, hyphens (underscore passes here)"
 abbrev pub labelOctet : ℕ → Bool

@@ -6,9 +6,9 @@ ghost use mathlib.Core.Bool.{_&&_};
 ghost use Prim.Native.Nat.{_<_};
 ghost use lib.ListN.{length};
 ghost use lib.Dec.{leb};
-ghost use Rattle.octets.specs.Octets.{octetsFrom};
+ghost use Rattle.octets.specs.Octets.{isOneOf, octetsFrom};
 ghost use Rattle.octets.specs.Numbers.{largest};
-ghost use Rattle.hosts.specs.Hosts.{hasOctet, hasUnderscore, labelOctet, labelsOf, labelsOk, hostOf, isPlain, noHost};
+ghost use Rattle.hosts.specs.Hosts.{hasUnderscore, labelOctet, labelsOf, labelsOk, hostOf, isPlain, noHost};
 ghost use Rattle.hosts.specs.Workings.Scanning.{mayEnd, mayGrow, mayFollow, sizeAfter};
 
 // What a name is as a host name.
@@ -28,7 +28,7 @@ pub fn is_plain(host: Host) -> bool
 
 // Whether x is one of the n octets from `body` on.
 fn has_octet(s: &[u8], x: u8, body: usize, n: usize) -> bool
-    ensures { λ r. ⌜ r ≡ hasOctet x (octetsFrom (now (s .entry)) body n) ⌝ }
+    ensures { λ r. ⌜ r ≡ isOneOf x (octetsFrom (now (s .entry)) body n) ⌝ }
 {
     let mut k = 0;
     while k < n {

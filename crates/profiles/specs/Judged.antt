@@ -1,9 +1,10 @@
 -- Which rule is judged in which profile. Every rule says so itself, where its number stands (`_for_⦂_` in report's `Rows`); here the same by numbers, as the
 -- code looks it up. No function that judges a rule could be proved if the two differed.
-use mathlib.Core.Bool.{Bool, false, cond, _||_}
+use mathlib.Core.Bool.{Bool, cond}
 use mathlib.Core.List.{List, [], _∷_}
 use Prim.Native.Nat.{ℕ}
 use lib.Dec.{eqb}
+use Rattle.octets.specs.Octets.{isOneOf}
 use Rattle.profiles.specs.Fields.{profileNumber}
 use Rattle.profiles.specs.declared.fields.Profile.{Profile}
 
@@ -121,10 +122,6 @@ rowOf (row ∷ rows) rule = cond (eqb rule (row .0)) (row .1) (rowOf rows rule)
 
 unfoldable pub judgedIn : ℕ → List ℕ
 judgedIn rule = rowOf ruleTable rule
-
-unfoldable pub isOneOf : ℕ → List ℕ → Bool
-isOneOf n [] = false
-isOneOf n (m ∷ ms) = eqb n m || isOneOf n ms
 
 -- the profile is one of these
 unfoldable pub judgedBy : Profile → List ℕ → Bool

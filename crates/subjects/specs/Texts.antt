@@ -3,6 +3,7 @@ use mathlib.Core.Bool.{Bool, true, false, not, _&&_, _||_}
 use mathlib.Core.List.{List}
 use Prim.Native.Nat.{ℕ}
 use lib.Dec.{eqb}
+use Rattle.profiles.specs.Fields.{country, organization, stateOrProvince}
 use Rattle.subjects.specs.Types.{arcOf, attributeValue}
 use Rattle.texts.specs.Texts.{word}
 use Rattle.der.specs.Comparing.{contentsAre}
@@ -29,12 +30,12 @@ districtOfColumbia = word "District of Columbia"
 
 -- 115 "each C is PrintableString "US""
 abbrev pub isOtherCountry : List ℕ → Head → Bool
-isOtherCountry s h = isOther s h 6 false unitedStates
+isOtherCountry s h = isOther s h country false unitedStates
 
 -- 117 "each O is "U.S. Government""; "117 and 119 take PrintableString or UTF8String"
 abbrev pub isOtherOrganization : List ℕ → Head → Bool
-isOtherOrganization s h = isOther s h 10 true government
+isOtherOrganization s h = isOther s h organization true government
 
 -- 119 "each ST is "District of Columbia""
 abbrev pub isOtherState : List ℕ → Head → Bool
-isOtherState s h = isOther s h 8 true districtOfColumbia
+isOtherState s h = isOther s h stateOrProvince true districtOfColumbia

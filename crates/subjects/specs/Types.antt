@@ -7,7 +7,7 @@ use Rattle.der.specs.Contents.{contentsOf}
 use Rattle.der.specs.Oids.{oid}
 use Rattle.der.specs.declared.header.Head.{Head}
 
--- X.520's attribute types are below it: CN is 3, C 6, ST 8, O 10, OU 11
+-- X.520's attribute types are below it
 abbrev pub attributeTypes : List ℕ
 attributeTypes = oid (2 ∷ 5 ∷ 4 ∷ [])
 

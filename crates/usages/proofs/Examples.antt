@@ -5,7 +5,7 @@ use mathlib.Core.Bool.{Bool, true, false}
 use Prim.Native.Nat.{ℕ}
 use lib.ListN.{length}
 use Rattle.usages.specs.Usage.{bitAt, anyBelow, usageOf, otherBits}
-use Rattle.profiles.specs.Judged.{isOneOf}
+use Rattle.octets.specs.Octets.{isOneOf}
 use Rattle.profiles.specs.Values.{digitalSignature, keyEncipherment, keyAgreement}
 use Rattle.usages.specs.Purposes.{purposeArc}
 use Rattle.octets.specs.Octets.{octetsFrom}

@@ -8,7 +8,7 @@ use lib.Dec.{eqb}
 use Rattle.octets.specs.Octets.{octetAt}
 use Rattle.der.specs.Contents.{contentsOf}
 use Rattle.der.specs.declared.header.Head.{Head}
-use Rattle.profiles.specs.Judged.{isOneOf}
+use Rattle.octets.specs.Octets.{isOneOf}
 use Rattle.profiles.specs.Values.{digitalSignature}
 
 -- the octets of bits in the contents of a BIT STRING

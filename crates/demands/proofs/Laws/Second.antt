@@ -1,5 +1,5 @@
 -- Demand 2, proved: `demand-2`. Assumes nothing.
-use mathlib.Core.Bool.{Bool, true, false, cond}
+use mathlib.Core.Bool.{true}
 use mathlib.Core.List.{List, [], _∷_, _++_}
 use mathlib.Core.Logic.{_↔_}
 use mathlib.Core.Path.{_≡_, refl, sym, ap, subst, _∙_}
@@ -21,14 +21,13 @@ use Rattle.report.proofs.Laws.Order.{not-equal}
 use Rattle.rules.specs.Rules.{findings}
 use Rattle.rules.proofs.Laws.Findings.{finding-in, none-broken, findings-ordered}
 use Rattle.lint.specs.Judging.{judgementOf}
-use Rattle.lint.specs.Answers.{answerTo, answerBy, answerOf, roomOf}
+use Rattle.lint.specs.Answers.{answerBy, answerOf, roomOf}
 use Rattle.lint.specs.declared.judging.Judgement.{Judgement}
 use Rattle.lint.specs.declared.judging.Judgement.the-variants.{Accepted}
-use Rattle.lint.specs.declared.reasons.Refusal.the-variants.{NoRoom}
-use Rattle.lint.specs.declared.linting.Answer.the-variants.{Report, Refused}
+use Rattle.lint.specs.declared.linting.Answer.the-variants.{Report}
 use Rattle.lint.proofs.Laws.Accepted.{accepted-fits, accepted-asked}
 use Rattle.lint.proofs.Laws.Order.{findings-back}
-use Rattle.lint.proofs.Laws.Statements.{findings-counted}
+use Rattle.lint.proofs.Laws.Statements.{told-report, findings-counted}
 use Rattle.places.proofs.Laws.Theorem.{places}
 use Rattle.recovery.proofs.Laws.Back.{reads-back}
 use Rattle.lint.specs.declared.judging.Judgement.the-variants as Judgements
@@ -43,15 +42,6 @@ accepted-for certificate issuer profile room n told = go (judgementOf certificat
         → (p : Profile) × (judgementOf certificate issuer profile ≡ Accepted p)
     go (Judgements.Refused r) q e = let z : _≡_ {A = ℕ} 0 1 = cc e in absurd (omega arith)
     go (Accepted p) q e = (p, q)
-
--- a report is given where the room suffices
-enough : (es : List Entry) (room : List ℕ) (n : ℕ) → answerTo es room ≡ Report n → enoughRoom es room ≡ true
-unfolding answerTo
-enough es room n = go (enoughRoom es room)
-  where
-    go : (b : Bool) → cond b (Report (length es)) (Refused NoRoom) ≡ Report n → b ≡ true
-    go true e = refl
-    go false e = cc
 
 -- no entries
 none : (n : ℕ) (es : List Entry) → n ≡ length es → (n ≡ 0) ↔ (es ≡ [])
@@ -71,7 +61,7 @@ module _ (p : Profile) (certificate issuer : List ℕ) (profile : ℕ) (room : L
 
   suffices : enoughRoom es room ≡ true
   unfolding answerOf
-  suffices = enough es room n (rw j at told)
+  suffices = told-report es room n (rw j at told) .0
 
   counted : n ≡ length es
   counted = findings-counted p certificate issuer profile room n j told

@@ -1,5 +1,5 @@
 -- Demand 3, proved: `demand-3`. Assumes nothing.
-use mathlib.Core.List.{List, [], _∷_, _++_, append-assoc}
+use mathlib.Core.List.{List, [], _∷_, _++_}
 use mathlib.Core.Logic.{⊎-elim}
 use mathlib.Core.Path.{_≡_, refl, sym, ap, ap₂, subst, _∙_}
 use Prim.Native.Nat.{ℕ, zero, suc, _+_, _*_, _^_, _≤_, _<_}
@@ -10,6 +10,7 @@ use Rattle.blocks.proofs.Laws.Check.{changed-fails, exchanged-fails, zeros-fail
 use Rattle.blocks.proofs.Laws.Logic.{below-or-not}
 use Rattle.writer.specs.Cutting.{blocksOf, endToEnd}
 use Rattle.writer.proofs.Laws.Answers.{taken-only}
+use Rattle.writer.proofs.Laws.Cutting.{end-to-end-append}
 use Rattle.writer.proofs.Laws.Statements.{rest-kept}
 use Rattle.reader.specs.Runs.{blocks}
 use Rattle.reader.specs.Events.{Event, record-at, lost-at, events, eventsFrom}
@@ -32,10 +33,6 @@ use Rattle.recovery.proofs.Laws.Statement.{recovers, each-once}
 
 -- ---- the deck
 
-end-to-end-join : (xs ys : List (List ℕ)) → endToEnd (xs ++ ys) ≡ endToEnd xs ++ endToEnd ys
-end-to-end-join [] ys = refl
-end-to-end-join (x ∷ xs) ys = ap (λ (l : List ℕ). x ++ l) (end-to-end-join xs ys) ∙ sym (append-assoc x (endToEnd xs) (endToEnd ys))
-
 deck-written : {number : ℕ} {ss : List Submitted} {was : List ℕ} → WrittenDeck number ss was → number + length ss ≤ 2 ^ 32
     → AllWritable ss × (was ≡ endToEnd (written number ss))
 deck-written no-record small = (tt, refl)
@@ -47,7 +44,7 @@ deck-written {number} (a-record {s = s} {ss = ss} {deck = deck} room last r coun
     ∙ rest-kept number (s .profile) (s .certificate) (s .issuer) room count (omega arith) told .front in
     let others = deck-written later (omega arith) in (
       (record { for = t .for; admitted = t .admitted }, others .0),
-      ap₂ (λ (a b : List ℕ). a ++ b) front (others .1) ∙ sym (end-to-end-join (blocksOf number (submittedOctets s)) (written (suc number) ss)),
+      ap₂ (λ (a b : List ℕ). a ++ b) front (others .1) ∙ sym (end-to-end-append (blocksOf number (submittedOctets s)) (written (suc number) ss)),
     )
 
 -- ---- reading

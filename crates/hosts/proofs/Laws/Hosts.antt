@@ -15,10 +15,10 @@ use native.Mathlib.Omega.{arith}
 use lib.ListN.{length}
 use lib.Dec.{leb, ltb, eqb}
 use borrow.Author.Tests.{eq-eqb, ne-eqb, eqb-true, le-leb, lt-leb, ltb-true, ltb-false}
-use Rattle.hosts.specs.Hosts.{hasOctet, labelOctet, labelOctets, labelOk, labelsFrom, labelsOf, labelsOk, hostOf}
+use Rattle.hosts.specs.Hosts.{labelOctet, labelOctets, labelOk, labelsFrom, labelsOf, labelsOk, hostOf}
 use Rattle.hosts.specs.Workings.Scanning.{mayEnd, mayGrow, mayFollow, sizeAfter}
 use Rattle.hosts.specs.declared.hosts.Host.the-variants.{Plain, Neither}
-use Rattle.octets.specs.Octets.{octetAt, octetsFrom}
+use Rattle.octets.specs.Octets.{isOneOf, octetAt, octetsFrom}
 use Rattle.octets.proofs.Laws.Octets.{octets-done, octets-next, octets-long}
 use Rattle.der.specs.Contents.{lastOf}
 
@@ -29,17 +29,17 @@ scanned size last dotted (b ∷ bs) = mayFollow size last b && scanned (sizeAfte
 
 -- ---- octets searched for x
 
-pub has-done : (s : List ℕ) (x body n k : ℕ) → n ≤ k → hasOctet x (octetsFrom s (body + k) (n - k)) ≡ false
-unfolding hasOctet
+pub has-done : (s : List ℕ) (x body n k : ℕ) → n ≤ k → isOneOf x (octetsFrom s (body + k) (n - k)) ≡ false
+unfolding isOneOf
 has-done s x body n k l = rw (octets-done s body n k l)
 
 module _ (s : List ℕ) (x body n k b : ℕ) (l : k < n) (e : b ≡ octetAt s (body + k)) where
-  pub has-found : b ≡ x → hasOctet x (octetsFrom s (body + k) (n - k)) ≡ true
-  unfolding hasOctet
+  pub has-found : b ≡ x → isOneOf x (octetsFrom s (body + k) (n - k)) ≡ true
+  unfolding isOneOf
   has-found f = rw (octets-next s body n k l, ← e, eq-eqb b x f)
 
-  pub has-next : (b ≡ x → ⊥) → hasOctet x (octetsFrom s (body + k) (n - k)) ≡ hasOctet x (octetsFrom s (body + (k + 1)) (n - (k + 1)))
-  unfolding hasOctet
+  pub has-next : (b ≡ x → ⊥) → isOneOf x (octetsFrom s (body + k) (n - k)) ≡ isOneOf x (octetsFrom s (body + (k + 1)) (n - (k + 1)))
+  unfolding isOneOf
   has-next f = rw (octets-next s body n k l, ← e, ne-eqb b x f)
 
 -- ---- a label so far

@@ -10,7 +10,8 @@ use native.Mathlib.Omega.{arith}
 use lib.ListN.{length}
 use lib.Dec.{eqb}
 use borrow.Author.Tests.{eqb-true}
-use Rattle.hosts.specs.Hosts.{hasOctet, labelsFrom, labelsOf}
+use Rattle.octets.specs.Octets.{isOneOf}
+use Rattle.hosts.specs.Hosts.{labelsFrom, labelsOf}
 use Rattle.hosts.proofs.Laws.Hosts.{labels-some}
 
 -- a dot before each label
@@ -25,7 +26,7 @@ joined (label ∷ labels) = label ++ dotted labels
 
 unfoldable pub dotless : List (List ℕ) → Bool
 dotless [] = true
-dotless (label ∷ labels) = not (hasOctet 46 label) && dotless labels
+dotless (label ∷ labels) = not (isOneOf 46 label) && dotless labels
 
 append-one : (cs : List ℕ) (b : ℕ) (bs : List ℕ) → ((cs ++ (b ∷ [])) ++ bs) ≡ (cs ++ (b ∷ bs))
 append-one [] b bs = refl
@@ -57,29 +58,29 @@ joined-from label (b ∷ bs) = go (λ l. joined-from l bs) (eqb b 46) refl
 pub labels-joined : (name : List ℕ) → joined (labelsOf name) ≡ name
 labels-joined name = joined-from [] name
 
-has-more : (x : ℕ) (bs : List ℕ) (b : ℕ) → hasOctet x bs ≡ false → eqb b x ≡ false → hasOctet x (bs ++ (b ∷ [])) ≡ false
-unfolding hasOctet
+has-more : (x : ℕ) (bs : List ℕ) (b : ℕ) → isOneOf x bs ≡ false → eqb b x ≡ false → isOneOf x (bs ++ (b ∷ [])) ≡ false
+unfolding isOneOf
 has-more x [] b e f = rw f
 has-more x (c ∷ cs) b e f = go (eqb c x) (λ h. has-more x cs b h f) e
   where
-    go : (t : Bool) → (hasOctet x cs ≡ false → hasOctet x (cs ++ (b ∷ [])) ≡ false) → (t || hasOctet x cs) ≡ false → (t || hasOctet x (cs ++ (b ∷ []))) ≡ false
+    go : (t : Bool) → (isOneOf x cs ≡ false → isOneOf x (cs ++ (b ∷ [])) ≡ false) → (t || isOneOf x cs) ≡ false → (t || isOneOf x (cs ++ (b ∷ []))) ≡ false
     go true ih g = g
     go false ih g = ih g
 
-none-dotless : (label : List ℕ) (labels : List (List ℕ)) → hasOctet 46 label ≡ false → dotless labels ≡ true → dotless (label ∷ labels) ≡ true
+none-dotless : (label : List ℕ) (labels : List (List ℕ)) → isOneOf 46 label ≡ false → dotless labels ≡ true → dotless (label ∷ labels) ≡ true
 unfolding dotless
 none-dotless label labels e f = rw (e, f)
 
-dotless-from : (label bs : List ℕ) → hasOctet 46 label ≡ false → dotless (labelsFrom label bs) ≡ true
-unfolding labelsFrom dotless hasOctet
+dotless-from : (label bs : List ℕ) → isOneOf 46 label ≡ false → dotless (labelsFrom label bs) ≡ true
+unfolding labelsFrom dotless isOneOf
 dotless-from label [] e = rw e
 dotless-from label (b ∷ bs) e = go (λ l. dotless-from l bs) (eqb b 46) refl
   where
-    go : ((l : List ℕ) → hasOctet 46 l ≡ false → dotless (labelsFrom l bs) ≡ true) → (t : Bool) → eqb b 46 ≡ t
+    go : ((l : List ℕ) → isOneOf 46 l ≡ false → dotless (labelsFrom l bs) ≡ true) → (t : Bool) → eqb b 46 ≡ t
         → dotless (cond t (label ∷ labelsFrom [] bs) (labelsFrom (label ++ (b ∷ [])) bs)) ≡ true
     go ih true f = none-dotless label (labelsFrom [] bs) e (ih [] refl)
     go ih false f = ih (label ++ (b ∷ [])) (has-more 46 label b e f)
 
 pub labels-whole : (name : List ℕ) → dotless (labelsOf name) ≡ true
-unfolding hasOctet
+unfolding isOneOf
 labels-whole name = dotless-from [] name refl

@@ -2,6 +2,7 @@
 --     one-answer        S11: any two answers that the contract allows coincide, and so do the rooms
 --     same-answer       S5: two accepted issuers that agree in subject name and key identifier give the same answer and room
 --     accepted          S2: a call with two acceptable sides and profile 1, 2 or 3 is refused by 7 at most
+--     told-report       a report is given where the room suffices
 --     findings-counted  S10: the count is the number of findings
 --     room-kept         a refused call leaves the room as it was
 -- Assumes nothing.
@@ -81,13 +82,14 @@ same-answer certificate i j profile room a b e =
 
 -- ---- S10
 
-told-count : (es : List Entry) (room : List ℕ) (n : ℕ) → answerTo es room ≡ Report n → n ≡ length es
+-- a report is given where the room suffices, and counts the findings
+pub told-report : (es : List Entry) (room : List ℕ) (n : ℕ) → answerTo es room ≡ Report n → (enoughRoom es room ≡ true) × (n ≡ length es)
 unfolding answerTo
-told-count es room n = go (enoughRoom es room)
+told-report es room n = go (enoughRoom es room)
   where
-    go : (b : Bool) → cond b (Report (length es)) (Refused Refusals.NoRoom) ≡ Report n → n ≡ length es
-    go true e = cc
-    go false e = cc
+    go : (b : Bool) → cond b (Report (length es)) (Refused Refusals.NoRoom) ≡ Report n → (b ≡ true) × (n ≡ length es)
+    go true e = (refl, cc)
+    go false e = (cc, cc)
 
 -- the count of an answer is the number of findings
 pub findings-counted : (p : Profile) (certificate issuer : List ℕ) (profile : ℕ) (room : List ℕ) (n : ℕ)
@@ -95,7 +97,7 @@ pub findings-counted : (p : Profile) (certificate issuer : List ℕ) (profile : 
     → n ≡ length (findings p certificate issuer)
 unfolding answerOf
 findings-counted p certificate issuer profile room n j e =
-    told-count (findings p certificate issuer) room n (rw j at e)
+    told-report (findings p certificate issuer) room n (rw j at e) .1
 
 -- ---- refusals
 

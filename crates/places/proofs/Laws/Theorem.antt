@@ -3,24 +3,22 @@
 -- Assumes nothing.
 use mathlib.Core.Path.{_≡_, refl, sym, ap, _∙_, subst}
 use mathlib.Core.List.{List}
-use mathlib.Core.Bool.{Bool, true, false, cond}
 use Prim.Native.Nat.{ℕ}
 use native.Mathlib.Omega.{arith}
-use lib.ListN.{length}
 use Rattle.places.specs.Statement.{AtElements, Places}
 use Rattle.profiles.specs.declared.fields.Profile.{Profile}
-use Rattle.report.specs.Answers.{enoughRoom, filled}
+use Rattle.report.specs.Answers.{filled}
 use Rattle.report.specs.Entries.{decode}
 use Rattle.report.specs.declared.sink.Entry.{Entry}
 use Rattle.rules.specs.Rules.{findings}
 use Rattle.rules.proofs.Laws.Findings.{findings-elements}
 use Rattle.lint.specs.Judging.{judgementOf}
-use Rattle.lint.specs.Answers.{answerTo, answerBy, roomBy, answerOf, roomOf}
-use Rattle.lint.specs.declared.reasons.Refusal.the-variants.{NoRoom}
+use Rattle.lint.specs.Answers.{answerBy, roomBy, answerOf, roomOf}
 use Rattle.lint.specs.declared.judging.Judgement.{Judgement}
-use Rattle.lint.specs.declared.linting.Answer.the-variants.{Report, Refused}
+use Rattle.lint.specs.declared.linting.Answer.the-variants.{Report}
 use Rattle.lint.proofs.Laws.Accepted.{accepted-fits}
 use Rattle.lint.proofs.Laws.Order.{findings-back}
+use Rattle.lint.proofs.Laws.Statements.{told-report}
 use Rattle.places.proofs.Laws.Soundness.{element-sound}
 use Rattle.octets.specs.declared.places.Place.{Place}
 use Rattle.places.proofs.Laws.Accepted.{accepted-sound}
@@ -37,20 +35,11 @@ module _ (s issuer : List ℕ) (profile : ℕ) where
   -- ---- what the linter answers
 
   module _ (room : List ℕ) (n : ℕ) where
-    -- a count is given where there is room, and is that of the findings
-    counted : (es : List Entry) → answerTo es room ≡ Report n → (enoughRoom es room ≡ true) × (n ≡ length es)
-    unfolding answerTo
-    counted es = go (enoughRoom es room)
-      where
-        go : (b : Bool) → cond b (Report (length es)) (Refused NoRoom) ≡ Report n → (b ≡ true) × (n ≡ length es)
-        go true e = (refl, cc)
-        go false e = (cc, cc)
-
     answered : (j : Judgement) → judgementOf s issuer profile ≡ j → answerBy j s issuer room ≡ Report n
         → AtElements s (decode n (roomBy j s issuer room))
     answered (Judgements.Refused r) q e = let z : _≡_ {A = ℕ} 0 1 = cc e in absurd (omega arith)
     answered (Judgements.Accepted p) q e =
-        let c = counted (findings p s issuer) e in
+        let c = told-report (findings p s issuer) room n e in
         let back = ap (λ (m : ℕ). decode m (filled (findings p s issuer) room)) (c .1) ∙ findings-back p s issuer profile room q (c .0) in
         subst (λ (es : List Entry). AtElements s es) (sym back) (findings-at p q)
 

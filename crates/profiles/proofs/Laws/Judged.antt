@@ -13,7 +13,8 @@ use lib.Dec.{ltb, eqb}
 use lib.ListN.{length}
 use borrow.Author.Tests.{eqb-true, ne-eqb, ltb-true, ltb-false}
 use Rattle.profiles.specs.Fields.{profileNumber}
-use Rattle.profiles.specs.Judged.{ruleTable, ruleLimit, rowOf, judgedIn, isOneOf, judgedBy, judges}
+use Rattle.octets.specs.Octets.{isOneOf}
+use Rattle.profiles.specs.Judged.{ruleTable, ruleLimit, rowOf, judgedIn, judgedBy, judges}
 use Rattle.profiles.specs.Workings.Bits.{weight, hasBit}
 use Rattle.profiles.specs.declared.fields.Profile.{Profile}
 use Rattle.profiles.specs.declared.fields.Profile.the-variants.{Domain, Organization, Responder}

@@ -16,7 +16,7 @@ use lib.Dec.{ltb, eqb}
 use borrow.Author.Tests.{lt-ltb, le-ltb, ltb-true, ltb-false, ne-eqb, eqb-true, eqb-false}
 use Rattle.usages.specs.Usage.{bitOctets, bitAt, anyBelow, otherBit, otherBits, passingBelow, bitsIn}
 use Rattle.usages.specs.Workings.Usage.{anySet, oddAlone}
-use Rattle.profiles.specs.Judged.{isOneOf}
+use Rattle.octets.specs.Octets.{isOneOf}
 use Rattle.octets.specs.Octets.{octetAt, octetsFrom}
 use Rattle.octets.proofs.Laws.Finite.{allBelow, all-below, same, same-true}
 use Rattle.octets.proofs.Laws.Octets.{octets-done, octets-next}
@@ -63,7 +63,7 @@ octet-bits b h =
 passing-one : (test : ℕ → Bool) (n k : ℕ) → isOneOf k (passingBelow test n) ≡ (ltb k n && test k)
 unfolding passingBelow isOneOf
 passing-one test zero k = rw (le-ltb k 0 (omega arith))
-passing-one test (suc n) k = go (passing-one test n k) (eqb k n) refl (test n) refl
+passing-one test (suc n) k = go (passing-one test n k) (eqb n k) refl (test n) refl
   where
     other : (k ≡ n → ⊥) → ltb k (suc n) ≡ ltb k n
     other d = below (ltb k n) refl
@@ -72,18 +72,18 @@ passing-one test (suc n) k = go (passing-one test n k) (eqb k n) refl (test n) r
         below true t = let l = ltb-true k n t in lt-ltb k (suc n) (omega (arith, l))
         below false t = let l = ltb-false k n t in le-ltb k (suc n) (omega (arith, l, d))
 
-    go : isOneOf k (passingBelow test n) ≡ (ltb k n && test k) → (e : Bool) → eqb k n ≡ e → (t : Bool) → test n ≡ t
+    go : isOneOf k (passingBelow test n) ≡ (ltb k n && test k) → (e : Bool) → eqb n k ≡ e → (t : Bool) → test n ≡ t
         → isOneOf k (cond t (n ∷ passingBelow test n) (passingBelow test n)) ≡ (ltb k (suc n) && test k)
     go ih true e true t =
-        let q = eqb-true k n e in
+        let q = sym (eqb-true n k e) in
         let l : k < suc n = omega (arith, q) in
         rw (e, lt-ltb k (suc n) l, ap test q, t)
     go ih true e false t =
-        let q = eqb-true k n e in
+        let q = sym (eqb-true n k e) in
         let l : k < suc n = omega (arith, q) in
         rw (lt-ltb k (suc n) l, ap test q, t) (ih ∙ rw (le-ltb k n (omega (arith, q))))
-    go ih false e true t = rw (e, other (eqb-false k n e)) ih
-    go ih false e false t = rw (other (eqb-false k n e)) ih
+    go ih false e true t = rw (e, other (λ q. eqb-false n k e (sym q))) ih
+    go ih false e false t = rw (other (λ q. eqb-false n k e (sym q))) ih
 
 -- an octet's bits by their numbers
 named-bit : (octet k : ℕ) → isOneOf k (bitsIn octet) ≡ bitAt (octet ∷ []) k

@@ -3,14 +3,13 @@ use mathlib.Core.Path.{_≡_, sym, _∙_}
 use Prim.Native.Nat.{_+_, _-_}
 use native.Mathlib.Nat.{add-zero, sub-zero}
 use native.Mathlib.Omega.{arith}
-use Rattle.hosts.specs.Hosts.{hasOctet}
-use Rattle.octets.specs.Octets.{octetsFrom}
+use Rattle.octets.specs.Octets.{isOneOf, octetsFrom}
 use Rattle.hosts.proofs.Laws.Hosts.{has-done, has-found, has-next}
 use Rattle.hosts.proofs.hosts.has_octet.Statement.{statement}
 use Rattle.hosts.proofs.hosts.has_octet.Tie as tie
 
 abbrev Inv-loop : tie.InvT-loop
-Inv-loop s x body n k₀ k = hasOctet x (octetsFrom s body n) ≡ hasOctet x (octetsFrom s (body + k) (n - k))
+Inv-loop s x body n k₀ k = isOneOf x (octetsFrom s body n) ≡ isOneOf x (octetsFrom s (body + k) (n - k))
 
 abbrev μ-loop : tie.MeasureT-loop
 μ-loop s x body n k₀ k = n - k
