@@ -39,17 +39,23 @@ isForeign p s h = not (allowsAttribute p (arcOf s h))
 
 -- ---- extensions
 
--- 361 "each later extension with an identifier seen before", in a list that has one such
+-- 362 "each extension "no" or not in the table, save private key usage period 2.5.29.16"; "other rules see the first only", so not one that was seen
+abbrev pub unwantedBy : Profile → (Head → Bool) → List ℕ → Head → Bool
+unwantedBy p seen s h = isUnwanted (markOf p (slotOf s h)) && (not (isPeriod s h) && not (seen h))
+
+-- 363 "each critical one that is "other" or not in the table"
+abbrev pub outOfPlaceBy : Profile → (Head → Bool) → List ℕ → Head → Bool
+outOfPlaceBy p seen s h = isOutOfPlace (markOf p (slotOf s h)) && (extensionOf s h .critical && not (seen h))
+
+-- as the code asks whether an identifier was seen before: only in a list that has such an extension
 abbrev pub isRepeat : Repeats → List ℕ → Head → Bool
 isRepeat repeats s h = repeats .some && seenBefore s (repeats .from) h
 
--- 362 "each extension "no" or not in the table, save private key usage period 2.5.29.16"; "other rules see the first only"
 unfoldable pub isUnwantedIn : Profile → Repeats → List ℕ → Head → Bool
-isUnwantedIn p repeats s h = isUnwanted (markOf p (slotOf s h)) && (not (isPeriod s h) && not (isRepeat repeats s h))
+isUnwantedIn p repeats s h = unwantedBy p (isRepeat repeats s) s h
 
--- 363 "each critical one that is "other" or not in the table"
 unfoldable pub isOutOfPlaceIn : Profile → Repeats → List ℕ → Head → Bool
-isOutOfPlaceIn p repeats s h = isOutOfPlace (markOf p (slotOf s h)) && (extensionOf s h .critical && not (isRepeat repeats s h))
+isOutOfPlaceIn p repeats s h = outOfPlaceBy p (isRepeat repeats s) s h
 
 -- ---- values
 

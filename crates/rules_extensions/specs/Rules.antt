@@ -11,4 +11,4 @@ unfoldable pub extensionRows : Profile → Case → List Row
 extensionRows p f =
     rowsOver Missing p (listPlace (f .fields)) (f .table)
     ++ (rowsOver Criticality p (listPlace (f .fields)) (f .table)
-    ++ (rowsOver Value p (listPlace (f .fields)) (f .table) ++ identifierRows p (f .octets) (f .fields .extensions) (f .repeated)))
+    ++ (rowsOver Value p (listPlace (f .fields)) (f .table) ++ identifierRows p (f .octets) (f .fields .extensions) (f .seen)))

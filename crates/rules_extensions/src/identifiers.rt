@@ -3,6 +3,7 @@ use der::Head;
 use forms::Kind;
 use forms::Repeats;
 use profiles::Profile;
+ghost use Rattle.facts.specs.Case.{seenBy};
 ghost use Rattle.report.specs.Rows.{Puts};
 ghost use Rattle.rules_extensions.specs.Identifiers.{identifierRows};
 
@@ -14,7 +15,7 @@ pub fn identifiers(
     list: Head,
     repeated: bool,
 ) -> usize
-    ensures { λ r. ⌜ Puts p (identifierRows p (now (s .entry)) list repeated) n (now (room .entry)) r (now (room .exit)) ⌝ }
+    ensures { λ r. ⌜ Puts p (identifierRows p (now (s .entry)) list (seenBy (now (s .entry)) list repeated)) n (now (room .entry)) r (now (room .exit)) ⌝ }
 {
     let from = list.body;
     let to = list.end;

@@ -113,7 +113,7 @@ demand-2 =
             j .0,
             accepted-asked certificate issuer profile (j .0) (j .1),
             subst (λ (l : List ℕ). ExactReport (j .0) certificate issuer room n l) (sym (a .bytes))
-            (exact (j .0) certificate issuer profile room n (j .1) told),
+                (exact (j .0) certificate issuer profile room n (j .1) told),
           );
       reads-back = reads-back;
     }

@@ -73,13 +73,13 @@ goes deck zero position room l =
 goes deck (suc n) position room l =
     ⊎-elim
     (λ (k : 512 * position < length deck).
-        let moves = item-moves deck position room k in
-        let later = goes deck n (position + itemBlocks (itemAt deck position room)) (roomAt deck position room) (omega (arith, l, moves)) in (
-          handedAt position (itemAt deck position room) (roomAt deck position room) ∷ later .0,
-          an-item (itemAt deck position room) (roomAt deck position room) (stepped refl refl) (λ e. omega (arith, moves, ap itemBlocks e)) (later .1),
-        ))
+    let moves = item-moves deck position room k in
+    let later = goes deck n (position + itemBlocks (itemAt deck position room)) (roomAt deck position room) (omega (arith, l, moves)) in (
+      handedAt position (itemAt deck position room) (roomAt deck position room) ∷ later .0,
+      an-item (itemAt deck position room) (roomAt deck position room) (stepped refl refl) (λ e. omega (arith, moves, ap itemBlocks e)) (later .1),
+    ))
     (λ (k : length deck ≤ 512 * position).
-        ([], at-end (itemAt deck position room) (roomAt deck position room) (stepped refl refl) (item-ended deck position room k)))
+    ([], at-end (itemAt deck position room) (roomAt deck position room) (stepped refl refl) (item-ended deck position room k)))
     (below-or-not (512 * position) (length deck))
 
 -- ---- counts

@@ -20,12 +20,13 @@ use Rattle.asn.specs.declared.fitting.Verdict.the-variants.{Fits}
 use Rattle.profiles.specs.Judged.{ruleLimit, judgedBy}
 use Rattle.profiles.specs.declared.fields.Profile.{Profile}
 use Rattle.certificate.specs.Issuer.{Known, knownOf}
-use Rattle.certificate.specs.Slots.{numbersFrom}
+use Rattle.certificate.specs.Fields.{certificateOf}
+use Rattle.certificate.specs.Slots.{numbersFrom, hasRepeats}
 use Rattle.certificate.proofs.Laws.Inside.{between-spans}
-use Rattle.facts.specs.Case.{Case, factsOf, caseOf, caseIn}
+use Rattle.facts.specs.Case.{Case, factsOf, seenBy, caseOf, caseIn}
 use Rattle.facts.specs.Elements.{Element}
 use Rattle.facts.specs.declared.Facts.{Facts}
-use Rattle.facts.proofs.Laws.Case.{case-is}
+use Rattle.facts.proofs.Laws.Case.{caseBy, case-is}
 use Rattle.facts.proofs.Laws.Inside.{element-inside}
 use Rattle.report.specs.Entries.{entryAt}
 use Rattle.report.specs.Order.{In, Ordered, EntriesInside}
@@ -49,6 +50,7 @@ use Rattle.rules_key.proofs.Laws.Rows.{key-ok}
 use Rattle.rules_extensions.specs.Slots.{rowsOver}
 use Rattle.rules_extensions.specs.Identifiers.{identifierRows}
 use Rattle.rules_extensions.specs.Rules.{extensionRows}
+use Rattle.rules_extensions.proofs.Laws.Repeats.{extensions-same}
 use Rattle.rules_extensions.proofs.Laws.Rows.{extensions-ok}
 use Rattle.rules_values.specs.Identifiers.{keyIdentifierRows}
 use Rattle.rules_values.specs.Usage.{usageRows}
@@ -106,6 +108,17 @@ module _ (p : Profile) (s issuer : List ℕ) where
   unfolding findings
   findings-inside e = known-inside p s (knownOf issuer) e
 
+  -- how repeats are asked makes no difference
+  asked-same : (k : Known)
+      → allRules p (caseBy s k (seenBy s (certificateOf s .extensions) (hasRepeats s (certificateOf s .extensions)))) ≡ allRules p (caseIn s k)
+  unfolding allRules fieldRows subjectRows keyRows valueRows
+  asked-same k =
+      let c = caseIn s k in
+      ap (λ (rows : List Row). fieldRows p c ++ (subjectRows p c ++ (keyRows p c ++ (rows ++ valueRows p c)))) (extensions-same p s k)
+
   pub found-by-facts : (f : Facts) → f ≡ factsOf s issuer → findingsOf p (allRules p (caseOf s f issuer)) ≡ findings p s issuer
   unfolding findings findingsFor
-  found-by-facts f e = (λ i. findingsOf p (allRules p (caseOf s (e i) issuer))) ∙ ap (λ (c : Case). findingsOf p (allRules p c)) (case-is s issuer)
+  found-by-facts f e =
+      (λ i. findingsOf p (allRules p (caseOf s (e i) issuer)))
+      ∙ ap (λ (c : Case). findingsOf p (allRules p c)) (case-is s issuer)
+      ∙ ap (findingsOf p) (asked-same (knownOf issuer))

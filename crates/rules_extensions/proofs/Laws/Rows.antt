@@ -54,7 +54,7 @@ module _ (s : List ℕ) (e : certificateVerdict s ≡ Fits) (p : Profile) (known
   each : {ps : List ℕ} (rule : ℕ) (bad : Head → Bool) → RowOk (Element s) (rule for ps ⦂ filter bad (membersIn s (certificateOf s .extensions)))
   each rule bad = each-ok rule bad (children-apart s _ _) (in-list s e)
 
-  identifiers-ok : RowsOk (Element s) (identifierRows p s (certificateOf s .extensions) (caseIn s known .repeated))
+  identifiers-ok : RowsOk (Element s) (identifierRows p s (certificateOf s .extensions) (caseIn s known .seen))
   unfolding identifierRows
   identifiers-ok = more-rows (each 361 _) (more-rows (each 362 _) (more-rows (each 363 _) no-rows))
 

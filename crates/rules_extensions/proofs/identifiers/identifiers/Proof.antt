@@ -2,12 +2,13 @@
 use borrow.Author.Needs.{needs}
 use Rattle.profiles.specs.Judged.{judgedIn, rowOf}
 use Rattle.rules_extensions.specs.Identifiers.{identifierRows}
+use Rattle.forms.specs.Kinds.{isUnwantedIn, isOutOfPlaceIn}
 use Rattle.report.proofs.Laws.Rows.{_⟫_}
 use Rattle.rules_extensions.proofs.identifiers.identifiers.Statement.{statement}
 use Rattle.rules_extensions.proofs.identifiers.identifiers.Tie as tie
 
 returns : tie.Need-returns
-unfolding identifierRows judgedIn rowOf
+unfolding identifierRows judgedIn rowOf isUnwantedIn isOutOfPlaceIn
 returns c =
     let third = c .before .before in
     let second = third .before .before .before .before in
