@@ -1,4 +1,5 @@
--- For each slot of document 01's table the first extension in it ("other rules see the first only"), and its value.
+-- As the code has it: for each slot of document 01's table the first extension in it, and what is read of it. Rules go by how an extension stands
+-- (`Standing`), and `standing-is` joins the two.
 use mathlib.Core.List.{List, [], _∷_, map}
 use mathlib.Core.Bool.{Bool, false, not, _&&_}
 use Prim.Native.Nat.{ℕ, zero, suc, _+_}
@@ -53,7 +54,6 @@ hasRepeats s list = anyOf (seenBefore s (list .body)) (membersIn s list)
 unfoldable pub readSlots : List ℕ → Head → SlotTable
 readSlots s list = record { each = slotsOf s list; repeated = hasRepeats s list }
 
--- ---- as the code finds them: first the extensions, then what is read of each; nothing is read of none
-
+-- an entry for none
 abbrev pub emptySlot : Head → Slot
 emptySlot none = record { place = none; critical = false; holder = none; element = none; good = false }

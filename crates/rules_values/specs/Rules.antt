@@ -1,4 +1,5 @@
--- Rules 401 to 419 together.
+-- Rules 401 to 419 together, with the extensions by their slots in document 01's table: 1 authority key id, 2 basic constraints, 3 subject key id, 4 key usage,
+-- 5 extended key usage, 6 policies, 7 alternative name, 8 AIA, 9 CRL points.
 use mathlib.Core.List.{List, _++_}
 use Rattle.rules_values.specs.Identifiers.{keyIdentifierRows}
 use Rattle.rules_values.specs.Usage.{usageRows}
