@@ -141,8 +141,10 @@ fn records_behind_a_torn_end_are_found_again_once_it_is_cut_out() {
     for torn in [1, 100, 511] {
         let case = linted(&mut Random::for_purpose("records behind a torn end"));
         let Some(desk) = Desk::with("behind", &[], case) else { return };
-        let later: Vec<u8> = [14, 15].iter().flat_map(|&number| desk.record(number).blocks().concat()).collect();
-        fs::write(&desk.deck, [&whole[..], &vec![0xA5; torn], &later[..]].concat()).expect("the deck is written");
+        let later: Vec<u8> =
+            [14, 15].iter().flat_map(|&number| desk.record(number).blocks().concat()).collect();
+        fs::write(&desk.deck, [&whole[..], &vec![0xA5; torn], &later[..]].concat())
+            .expect("the deck is written");
         let blocks = (whole.len() + later.len()) / BLOCK;
         let lost = 5 + later.len() / BLOCK + 1;
         assert_eq!(desk.counts(), format!("records 13 blocks {} lost {lost}", blocks + 1));

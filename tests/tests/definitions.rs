@@ -240,8 +240,12 @@ fn no_other_definition_names_a_working() {
 fn every_other_definition_is_reached_from_a_contract_or_a_statement() {
     let definitions = Definitions::read();
     let reached = definitions.reached(roots(&definitions));
-    let bad: Vec<String> =
-        definitions.texts.keys().filter(|key| !is_working(key) && !reached.contains(*key)).map(shown).collect();
+    let bad: Vec<String> = definitions
+        .texts
+        .keys()
+        .filter(|key| !is_working(key) && !reached.contains(*key))
+        .map(shown)
+        .collect();
     assert!(bad.is_empty(), "no contract and no statement needs these, so they belong elsewhere: {bad:#?}");
 }
 

@@ -44,7 +44,8 @@ fn judged(name: &str, logs: &[&str]) -> (bool, String) {
         fs::write(edit.join(".log"), format!("{log}\nlogic=not-proved\n")).expect("a log");
     }
     let script = Path::new(env!("CARGO_MANIFEST_DIR")).join("../tools/refused_at_facts");
-    let ended = Command::new(&script).arg(&folder).output().unwrap_or_else(|e| panic!("{}: {e}", script.display()));
+    let ended =
+        Command::new(&script).arg(&folder).output().unwrap_or_else(|e| panic!("{}: {e}", script.display()));
     fs::remove_dir_all(&folder).ok();
     (ended.status.success(), String::from_utf8_lossy(&ended.stdout).into_owned())
 }
@@ -60,7 +61,11 @@ fn errors_at_facts_are_taken() {
 fn other_errors_are_told() {
     let (taken, said) = judged("no-facts", AT_NO_FACT);
     assert!(!taken);
-    assert_eq!(said.lines().filter(|line| line.contains("not refused at a fact")).count(), AT_NO_FACT.len(), "{said}");
+    assert_eq!(
+        said.lines().filter(|line| line.contains("not refused at a fact")).count(),
+        AT_NO_FACT.len(),
+        "{said}"
+    );
 }
 
 #[test]

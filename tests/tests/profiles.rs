@@ -1,17 +1,14 @@
-//! One table says which rule is judged in which profile: the definition that the proofs stand on, the page for
-//! readers, and the tests' own list say the same.
+//! Which rule is judged in which profile: the table by numbers that the proofs stand on, the rows in which each rule has
+//! its profiles beside its number, the page for readers, and the tests' own list say the same.
 
 use std::collections::BTreeMap;
-use std::fs;
-use std::path::Path;
 
-use comparison::profile;
+use comparison::{profile, sources};
 
 type Table = BTreeMap<u16, Vec<u8>>;
 
 fn text_of(name: &str) -> String {
-    let path = Path::new(env!("CARGO_MANIFEST_DIR")).parent().expect("a repository").join(name);
-    fs::read_to_string(&path).unwrap_or_else(|e| panic!("{}: {e}", path.display()))
+    sources::text_of(&sources::repository().join(name))
 }
 
 fn enter(table: &mut Table, rule: u16, profiles: Vec<u8>) {
@@ -19,7 +16,33 @@ fn enter(table: &mut Table, rule: u16, profiles: Vec<u8>) {
     assert!(before.is_none(), "rule {rule} stands in the table twice");
 }
 
-/// Rows such as `(104, 3 ∷ [])` of the definition.
+/// The profiles that words such as `2 ∷ O` say, with the names as a definition's text has them: `O = 3 ∷ []`.
+fn profiles_in(text: &str, words: &str) -> Vec<u8> {
+    let mut profiles = Vec::new();
+    for word in words.trim_matches(['(', ')']).split(" ∷ ").filter(|word| *word != "[]") {
+        let named = || text.lines().find_map(|line| line.strip_prefix(word)?.strip_prefix(" = "));
+        match word.parse() {
+            Ok(number) => profiles.push(number),
+            Err(_) => {
+                profiles.extend(profiles_in(text, named().unwrap_or_else(|| panic!("no profile: {word}"))))
+            }
+        }
+    }
+    profiles
+}
+
+/// Rows such as `104 for O ⦂ rule104 c` in the definitions of rules.
+fn written(text: &str, judged: &str, table: &mut Table) {
+    for piece in text.split(" ⦂ ") {
+        let Some((head, words)) = piece.rsplit_once(" for ") else { continue };
+        let number = head.rsplit(char::is_whitespace).next().and_then(|word| word.parse().ok());
+        if let Some(rule) = number {
+            enter(table, rule, profiles_in(judged, words));
+        }
+    }
+}
+
+/// Rows such as `(104, O)` of the table by numbers.
 fn defined(text: &str) -> Table {
     let mut table = Table::new();
     let (_, rows) = text.split_once("\nruleTable =\n").expect("the definition of the table");
@@ -27,9 +50,7 @@ fn defined(text: &str) -> Table {
         let Some((_, row)) = line.split_once('(').filter(|_| !line.starts_with("--")) else { continue };
         let row = row.strip_suffix(')').expect("a row ends");
         let (rule, profiles) = row.split_once(", ").expect("a row has a rule and its profiles");
-        let profiles =
-            profiles.split(" ∷ ").filter(|word| *word != "[]").map(|word| word.parse().expect("a profile"));
-        enter(&mut table, rule.parse().expect("a rule"), profiles.collect());
+        enter(&mut table, rule.parse().expect("a rule"), profiles_in(text, profiles));
     }
     table
 }
@@ -77,4 +98,21 @@ fn the_definition_the_page_and_the_tests_agree() {
         judged.values().map(Vec::len).sum::<usize>()
     );
     assert_eq!(judged, own, "crates/profiles/specs/Judged.antt and the tests' own list");
+}
+
+#[test]
+fn every_rule_has_its_profiles_beside_its_number() {
+    let judged = text_of("crates/profiles/specs/Judged.antt");
+    let mut rows = Table::new();
+    for group in ["rules_fields", "rules_subject", "rules_key", "rules_extensions", "rules_values"] {
+        let specs = sources::repository().join("crates").join(group).join("specs");
+        for file in sources::files_below(&specs, "antt") {
+            written(&sources::text_of(&file), &judged, &mut rows);
+        }
+    }
+    // 301 to 350 have theirs from the table of extensions, by slot
+    let by_number: Table =
+        defined(&judged).into_iter().filter(|(rule, _)| !(301..=350).contains(rule)).collect();
+    println!("{} rules have their profiles beside their numbers", rows.len());
+    assert_eq!(rows, by_number, "the rows of the rules and crates/profiles/specs/Judged.antt");
 }
