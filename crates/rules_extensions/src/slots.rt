@@ -12,7 +12,7 @@ ghost use Rattle.certificate.specs.Slots.{slotCount};
 ghost use Rattle.certificate.specs.Standing.{standingBy, standingsBy};
 ghost use Rattle.facts.specs.Case.{slotIn};
 ghost use Rattle.report.specs.Rows.{Puts};
-ghost use Rattle.rules_extensions.specs.Slots.{listPlace, isMissing, isMiscriticalAt, rowAt, rowsOver};
+ghost use Rattle.rules_extensions.specs.Slots.{listPlace, isMiscriticalAt, rowAt, rowsOver};
 
 pub enum Question {
     // 300+s
@@ -32,13 +32,6 @@ pub fn list_place(c: Certificate) -> Head
         return list;
     }
     c.tbs
-}
-
-// Whether there is none in a slot.
-fn is_missing(v: Slot) -> bool
-    ensures { λ r. ⌜ r ≡ isMissing (standingBy v) ⌝ }
-{
-    !v.good & der::is_none(v.place)
 }
 
 // Whether an extension in this slot is critical and must not be, or the reverse.
@@ -61,7 +54,7 @@ fn of_slot(
     requires { ⌜ slot < slotCount ⌝ }
     ensures { λ r. ⌜ Puts p (rowAt question p list slot (standingBy v) ∷ []) n (now (room .entry)) r (now (room .exit)) ⌝ }
 {
-    let none = is_missing(v);
+    let none = !v.good & der::is_none(v.place);
     match question {
         Question::Missing => report::judge(room, n, p, 300 + slot, none, list),
         Question::Criticality => {

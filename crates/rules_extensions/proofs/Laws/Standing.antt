@@ -1,8 +1,8 @@
 -- What is asked of an extension, by the code's entry for it.
---     missing-is                                  whether it is missing
+--     missing-by                                  whether it is missing
 --     puts-missing, puts-critical, puts-value     a question's rule for a slot
 -- Assumes nothing.
-use mathlib.Core.Path.{_≡_, refl, subst, _∙_}
+use mathlib.Core.Path.{_≡_, refl, ap, subst, _∙_}
 use mathlib.Core.List.{List, [], _∷_}
 use mathlib.Core.Bool.{Bool, true, false, cond, not, _&&_}
 use Prim.Native.Nat.{ℕ, _+_, _<_}
@@ -23,13 +23,16 @@ module _ (v : Slot) where
   abbrev by : Bool → Bool → Standing
   by good empty = cond good (Standing.good (extensionBy v) (v .element)) (cond empty Standing.missing (Standing.bad (extensionBy v)))
 
-  pub missing-is : (not (v .good) && isEmpty (v .place)) ≡ isMissing (standingBy v)
+  missing-is : (not (v .good) && isEmpty (v .place)) ≡ isMissing (standingBy v)
   missing-is = go (v .good) (isEmpty (v .place))
     where
       go : (g e : Bool) → (not g && e) ≡ isMissing (by g e)
       go true e = refl
       go false true = refl
       go false false = refl
+
+  pub missing-by : {none : Bool} → none ≡ isEmpty (v .place) → (not (v .good) && none) ≡ isMissing (standingBy v)
+  missing-by e = ap (λ (b : Bool). not (v .good) && b) e ∙ missing-is
 
   there-is : (bad : Bool → Bool)
       → brokenAt (not (isMissing (standingBy v)) && bad (v .critical)) (v .place) ≡ whereThere (standingBy v) (λ x. brokenAt (bad (x .critical)) (x .place))

@@ -1,6 +1,6 @@
 -- `rules_extensions::slots::of_slot` meets its contract. Assumes nothing.
 use borrow.Author.Needs.{needs}
-use Rattle.rules_extensions.proofs.Laws.Standing.{puts-missing, puts-critical, puts-value}
+use Rattle.rules_extensions.proofs.Laws.Standing.{missing-by, puts-missing, puts-critical, puts-value}
 use Rattle.rules_extensions.proofs.slots.of_slot.Statement.{statement}
 use Rattle.rules_extensions.proofs.slots.of_slot.Tie as tie
 
@@ -9,9 +9,10 @@ returns c =
     let judged = c .before .before in
     let question = judged .before .before in
     let none = question .before .before in
-    let a = none .before .before .args in
+    let start = none .before .before .before in
+    let a = start .args in
     rw (question .enum-told .given .1)
-    (puts-missing (a .v) (a .p) (a .list) (a .slot) (none .before .before .pre) _ (none .is-missing .ensures) (judged .judge .ensures))
+    (puts-missing (a .v) (a .p) (a .list) (a .slot) (start .pre) _ (missing-by (a .v) (none .is-none .ensures)) (judged .judge .ensures))
 
 returns-2 : tie.Need-returns-2
 returns-2 c =
@@ -19,9 +20,10 @@ returns-2 c =
     let bad = judged .before .before in
     let question = bad .before in
     let none = question .before .before in
-    let a = none .before .before .args in
+    let start = none .before .before .before in
+    let a = start .args in
     rw (question .enum-told2 .given .1)
-    (puts-critical (a .v) (a .p) (a .list) (a .slot) (none .before .before .pre) _ (none .is-missing .ensures)
+    (puts-critical (a .v) (a .p) (a .list) (a .slot) (start .pre) _ (missing-by (a .v) (none .is-none .ensures))
     (rw (bad .is-miscritical-at .ensures) at (judged .judge2 .ensures)))
 
 returns-3 : tie.Need-returns-3
@@ -29,9 +31,10 @@ returns-3 c =
     let judged = c .before .before in
     let question = judged .before .before .before in
     let none = question .before .before in
-    let a = none .before .before .args in
+    let start = none .before .before .before in
+    let a = start .args in
     rw (question .enum-told3 .given .1)
-    (puts-value (a .v) (a .p) (a .list) (a .slot) (none .before .before .pre) _ (none .is-missing .ensures) (judged .judge3 .ensures))
+    (puts-value (a .v) (a .p) (a .list) (a .slot) (start .pre) _ (missing-by (a .v) (none .is-none .ensures)) (judged .judge3 .ensures))
 
 pub of-slot-spec : {M : Type 1} → statement M
 of-slot-spec =
