@@ -14,11 +14,7 @@ const EXCEPTIONS: &[(&str, &[&str])] = &[
     ),
     ("what `rt version` and the gate print", &["rattle-kit-5b logic 064da1ca440f63e7", "N passed, 0 failed"]),
     ("a word of a line of the listing, a reply of the program `answers`", &["stray", "departs at P"]),
-    ("a function of an earlier state, which the section of docs/BENCHMARKS.md names", &["extension_from"]),
-    (
-        "the C library's, a package's, a setting of cargo",
-        &["memcpy", "pthread_getattr_np", "ca-certificates", "RUSTFLAGS=\"-C link-arg=..\""],
-    ),
+    ("the C library's, a setting of cargo", &["pthread_getattr_np", "RUSTFLAGS=\"-C link-arg=..\""]),
     ("the operating system's", &["/proc/self/maps"]),
 ];
 
@@ -236,8 +232,10 @@ fn every_name_on_a_page_is_one_that_we_have() {
     let (names, bases) = (known_names(&paths), bases());
     assert!(names.contains("derSoundness") && names.contains("check_der"), "the sources are not read right");
     let mut dead = Vec::new();
+    let mut unused: BTreeSet<&str> = EXCEPTIONS.iter().flat_map(|(_, texts)| texts.iter().copied()).collect();
     for page in pages() {
         let texts = quoted(&text_of(&page));
+        unused.retain(|exception| !texts.iter().any(|text| text == exception));
         println!("{}: {} texts in backquotes", page.display(), texts.len());
         let unknown = texts.iter().filter(|text| !may_stand(text, &names, &bases) && !is_exception(text));
         dead.extend(
@@ -245,6 +243,7 @@ fn every_name_on_a_page_is_one_that_we_have() {
         );
     }
     assert!(dead.is_empty(), "names on pages that nothing in the repository has: {dead:#?}");
+    assert!(unused.is_empty(), "exceptions that no page needs: {unused:?}");
 }
 
 #[test]
