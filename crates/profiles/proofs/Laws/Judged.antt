@@ -17,7 +17,7 @@ use Rattle.octets.specs.Octets.{isOneOf}
 use Rattle.profiles.specs.Judged.{ruleTable, ruleLimit, rowOf, judgedIn, judgedBy, judges}
 use Rattle.profiles.specs.Workings.Bits.{weight, hasBit}
 use Rattle.profiles.specs.declared.fields.Profile.{Profile}
-use Rattle.profiles.specs.declared.fields.Profile.the-variants.{Domain, Organization, Responder}
+use Rattle.profiles.specs.declared.fields.Profile.the-variants.{Domain, Organization, Responder, Subordinate}
 use Rattle.octets.specs.Octets.{octetAt}
 use Rattle.octets.proofs.Laws.Tests.{and-l, and-r}
 use Rattle.octets.proofs.Laws.Finite.{allBelow, all-below, same, same-true}
@@ -96,12 +96,14 @@ unfolding bitRight same weight isOneOf
 no-bit Domain = refl
 no-bit Organization = refl
 no-bit Responder = refl
+no-bit Subordinate = refl
 
 all-bits : (p : Profile) → allRules (λ row. bitRight p (row .1)) ruleTable ≡ true
 unfolding allRules bitRight same weight isOneOf
 all-bits Domain = refl
 all-bits Organization = refl
 all-bits Responder = refl
+all-bits Subordinate = refl
 
 pub bit-right : (p : Profile) (rule : ℕ) → hasBit p (weight (judgedIn rule)) ≡ judges p rule
 unfolding judgedBy judgedIn bitRight

@@ -5,7 +5,7 @@ use mathlib.Core.List.{List, [], _∷_}
 use Prim.Native.Nat.{ℕ, _+_, _-_, _/_, _%_, _^_}
 use lib.Dec.{eqb}
 use Rattle.profiles.specs.declared.fields.Profile.{Profile}
-use Rattle.profiles.specs.declared.fields.Profile.the-variants.{Domain, Organization, Responder}
+use Rattle.profiles.specs.declared.fields.Profile.the-variants.{Domain, Organization, Responder, Subordinate}
 
 unfoldable pub weight : List ℕ → ℕ
 weight [] = 0
@@ -16,3 +16,4 @@ abbrev pub hasBit : Profile → ℕ → Bool
 hasBit Domain bits = eqb (bits % 2) 1
 hasBit Organization bits = eqb (bits / 2 % 2) 1
 hasBit Responder bits = eqb (bits / 4 % 2) 1
+hasBit Subordinate bits = eqb (bits / 8 % 2) 1

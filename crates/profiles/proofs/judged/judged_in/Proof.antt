@@ -13,13 +13,13 @@ returns : tie.Need-returns
 unfolding allBelow rightFor judgedIn rowOf weight octetsFor
 returns c =
     let a = c .before .before .before .before .args in
-    rw (c .octet .ensures, c .before .minus .ensures) (table-right (octetsFor 100 22) 100 0 200 (a .rule) refl (omega arith) (omega arith))
+    rw (c .octet .ensures, c .before .minus .ensures) (table-right (octetsFor 100 23) 100 0 200 (a .rule) refl (omega arith) (omega arith))
 
 returns-2 : tie.Need-returns-2
 unfolding allBelow rightFor judgedIn rowOf weight octetsFor
 returns-2 c =
     let a = c .before .before .before .before .before .args in
-    rw (c .octet2 .ensures, c .before .minus2 .ensures) (table-right (octetsFor 200 8) 200 200 100 (a .rule) refl (omega arith) (omega arith))
+    rw (c .octet2 .ensures, c .before .minus2 .ensures) (table-right (octetsFor 200 9) 200 200 100 (a .rule) refl (omega arith) (omega arith))
 
 returns-3 : tie.Need-returns-3
 unfolding allBelow rightFor judgedIn rowOf weight octetsFor
@@ -32,7 +32,7 @@ unfolding allBelow rightFor judgedIn rowOf weight octetsFor
 returns-4 c =
     let a = c .before .before .before .before .before .before .args in
     rw (c .octet4 .ensures, c .before .minus4 .ensures)
-    (last-right (octetsFor 400 20) 400 400 20 (a .rule) refl (omega arith) refl (omega arith))
+    (last-right (octetsFor 400 25) 400 400 25 (a .rule) refl (omega arith) refl (omega arith))
 
 pub judged-in-spec : {M : Type 1} → statement M
 judged-in-spec =
