@@ -44,11 +44,9 @@ pub full-names-of : (s : List ℕ) (point : Head) → AllMembers s point → All
 unfolding fullNameOf
 full-names-of s point k = go (hasFullName s point) refl
   where
-    abbrev name : Head
-    name = firstIn s point
-
-    go : (b : Bool) → hasFullName s point ≡ b → AllMembers s (cond b (firstIn s name) (missing (point .end)))
+    go : (b : Bool) → hasFullName s point ≡ b → AllMembers s (cond b (firstIn s (firstIn s point)) (missing (point .end)))
     go true t =
+        let name = firstIn s point in
         let outer = eqb-true (name .tag) 160 (and-l (eqb (name .tag) 160) (eqb (firstIn s name .tag) 160) t) in
         let inner = eqb-true (firstIn s name .tag) 160 (and-r (eqb (name .tag) 160) (eqb (firstIn s name .tag) 160) t) in
         let names = members-by s name (ap constructed outer) (k name (first-member s point outer)) in
@@ -60,22 +58,16 @@ full-names-of s point k = go (hasFullName s point) refl
 module _ (s : List ℕ) (end : ℕ) where
   names-lie : (at : ℕ) → at < end → (at ≤ fullNameOf s (headOf s at end) .body) × (fullNameOf s (headOf s at end) .end ≤ headOf s at end .end)
   unfolding fullNameOf
-  names-lie at l = go (hasFullName s h)
+  names-lie at l = go (headOf s at end) (head-body s at end l) (hasFullName s (headOf s at end))
     where
-      abbrev h : Head
-      h = headOf s at end
-
-      go : (b : Bool)
-          → (at ≤ cond b (firstIn s (firstIn s h)) (missing (h .end)) .body) × (cond b (firstIn s (firstIn s h)) (missing (h .end)) .end ≤ h .end)
-      go true =
-          let b = head-body s at end l in
+      go : (h : Head) → (at < h .body) × (h .body ≤ h .end) → (t : Bool)
+          → (at ≤ cond t (firstIn s (firstIn s h)) (missing (h .end)) .body) × (cond t (firstIn s (firstIn s h)) (missing (h .end)) .end ≤ h .end)
+      go h b true =
           let q = between-first s (h .body) (h .end) (firstIn s h) (between-head s (h .body) (h .end) (b .1)) in
           let i = q .starts in
           let j = q .holds in
           (omega (arith, b .0, i, j), q .ends)
-      go false =
-          let b = head-body s at end l in
-          (omega (arith, b .0, b .1), le-refl (h .end))
+      go h b false = (omega (arith, b .0, b .1), le-refl (h .end))
 
   pub full-names-apart : (at : ℕ) → Apart (itemsWithin Point s at end)
   unfolding itemsWithin
