@@ -6,7 +6,7 @@ ghost use mathlib.Core.Path.{_≡_};
 ghost use Rattle.times.specs.Calendar.{secondsOf};
 ghost use Rattle.times.specs.Anniversary.{yearlyDay, anniversaryOf};
 
-// 28 February for 29 February.
+// The day of a month on which anniversaries fall: a leap day's on the day before it.
 fn yearly_day(d: Date) -> u8
     ensures { λ r. ⌜ r ≡ yearlyDay d ⌝ }
 {

@@ -13,7 +13,7 @@ pub struct Date {
     pub second: u8,
 }
 
-// A year here is wider than a date's, so that a date's year and some more of them is one too.
+// Years are wider here than in a date, so that the year of an anniversary is one too.
 fn leap_year(year: u32) -> bool
     ensures { λ r. ⌜ r ≡ leapYear year ⌝ }
 {
