@@ -33,5 +33,15 @@ pub fn name_and_sets(room: &mut [u8], n: usize, p: Profile, s: &[u8], name: Head
     let unnamed = is_unnamed(judged, s, cn, v.element);
     let a = report::judge(room, n, p, 120, unnamed, cn);
     let b = forms::judge_each(room, a, p, 121, Kind::Crowded, s, from, to);
-    forms::judge_within(room, b, p, 122, Nest::Set, Kind::OtherAuthority, s, from, to)
+    forms::judge_within(
+        room,
+        b,
+        p,
+        122,
+        Nest::Set,
+        Kind::OtherAuthority,
+        s,
+        from,
+        to,
+    )
 }
