@@ -6,9 +6,8 @@ pub mod key;
 pub mod values;
 
 use crate::correct::{correct, plain, set_extension, Pair, HOST};
-use crate::element::Element;
 use crate::general_names::{dns, general_names};
-use crate::profile::existing_rules;
+use crate::profile::breaking_in;
 use crate::random::Random;
 
 /// What a fault changes or depends on. Faults that share nothing can be put into one certificate.
@@ -122,9 +121,7 @@ pub fn mix(profile: u8, faults: &[Fault], random: &mut Random) -> Pair {
 pub fn densest(profile: u8) -> Pair {
     let mut pair = plain(profile);
     set_extension(&mut pair, 7, general_names(vec![dns(HOST)]));
-    let existing = existing_rules(profile);
-    let broken = [413, 414].into_iter().filter(|rule| existing.contains(rule));
-    let name = broken.fold(dns("_"), Element::breaking);
+    let name = breaking_in(profile, 413, breaking_in(profile, 414, dns("_")));
     let bare = pair.encode().certificate.len();
     for _ in 0..(8192 - bare - 20) / 3 {
         pair.extension(7).value().push(name.clone());

@@ -1,5 +1,6 @@
 //! The four profiles: which rules exist in each, and how each extension stands.
 
+use crate::element::Element;
 use crate::object_identifiers as oid;
 
 pub const ALL: &[u8] = &[1, 2, 3, 4];
@@ -135,6 +136,15 @@ pub fn existing_rules(profile: u8) -> Vec<u16> {
 
 pub fn has_rule(profile: u8, rule: u16) -> bool {
     existing_rules(profile).contains(&rule)
+}
+
+/// The element, marked with a rule where the profile has it.
+pub fn breaking_in(profile: u8, rule: u16, element: Element) -> Element {
+    if has_rule(profile, rule) {
+        element.breaking(rule)
+    } else {
+        element
+    }
 }
 
 fn rules_on_fields(profile: u8) -> Vec<u16> {

@@ -12,7 +12,7 @@ use comparison::faults::{catalogue, mix, why_never_alone};
 use comparison::general_names::{dns, named_bits};
 use comparison::holding::rules_of;
 use comparison::linters::Linters;
-use comparison::profile::{existing_rules, has_rule, is_server, standing, ALL, SLOTS};
+use comparison::profile::{breaking_in, existing_rules, has_rule, is_server, standing, ALL, SLOTS};
 use comparison::random::Random;
 
 #[test]
@@ -191,22 +191,13 @@ fn every_kind_of_bad_rsa_bits_breaks_204() {
     linters.finish();
 }
 
-/// The element, marked with a rule where the profile has it.
-fn breaking_if_there(profile: u8, rule: u16, element: Element) -> Element {
-    if has_rule(profile, rule) {
-        element.breaking(rule)
-    } else {
-        element
-    }
-}
-
 #[test]
 fn every_malformed_host_breaks_414() {
     let mut linters = Linters::of("malformed host names, one by one");
     for profile in ALL {
         for host in malformed_hosts() {
             let mut pair = plain(*profile);
-            let name = breaking_if_there(*profile, 414, Element::primitive(0x82, &host));
+            let name = breaking_in(*profile, 414, Element::primitive(0x82, &host));
             let mut names = plain_value(7, *profile);
             names.push(name);
             set_extension(&mut pair, 7, names);
@@ -218,10 +209,10 @@ fn every_malformed_host_breaks_414() {
             let passes = octet.is_ascii_alphanumeric() || b"-_.".contains(&octet);
             let mut name = Element::primitive(0x82, &[b'a', octet, b'b', b'.', b'c']);
             if !passes {
-                name = breaking_if_there(*profile, 414, name);
+                name = breaking_in(*profile, 414, name);
             }
             if octet == b'_' {
-                name = breaking_if_there(*profile, 413, name);
+                name = breaking_in(*profile, 413, name);
             }
             set_extension(&mut pair, 7, Element::sequence(vec![dns("www.agency.example"), name]));
             linters.hold(&format!("octet {octet:02X} in a label"), &pair.encode());

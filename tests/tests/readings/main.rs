@@ -1,5 +1,5 @@
 //! The points that document 01 leaves open, as the design decides them: one test for each reading. Those of the deck are in
-//! `deck_readings`.
+//! `deck_readings`, those of document 02 on subordinate CAs in `subordinate_authorities`.
 
 mod issuer;
 mod places;
