@@ -1,7 +1,7 @@
 //! Single faults: each makes a correct pair break known rules at known places, and no others.
 
 mod extensions;
-mod fields;
+pub mod fields;
 pub mod key;
 pub mod values;
 
