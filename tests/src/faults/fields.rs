@@ -18,6 +18,7 @@ pub(super) fn add(faults: &mut Catalogue) {
     add_algorithms(faults);
     add_issuer_name(faults);
     add_times(faults);
+    add_ten_years(faults);
     add_subject_attributes(faults);
     add_count_of_common_names(faults);
     add_common_name(faults);
@@ -175,6 +176,10 @@ fn add_times(faults: &mut Catalogue) {
     faults.add("too long from a UTCTime to a GeneralizedTime", &[111], ALL, |pair, _, _| {
         too_long(pair, Moment::at(2049, 12, 31), 1);
     });
+}
+
+fn add_ten_years(faults: &mut Catalogue) {
+    let mut faults = faults.touching(&[Times]);
     faults.add("too long from a 29 February", &[111], AUTHORITY, |pair, random, _| {
         let year = *random.choose(&[1952, 2024, 2040, 2048, 2096, 2396, 9972]);
         let start = Moment::at(year, 2, 29).later(random.below(DAY as usize) as i64);

@@ -130,7 +130,7 @@ fn any_subtree(random: &mut Random) -> Element {
     let far: [&[u8]; 5] = [&[1], &[0x7F], &[0, 0x80], &[1, 0], &[0x55; 30]];
     let mut distances = Vec::new();
     if random.once_in(4) {
-        distances.push(minimum(*random.choose::<&[u8]>(&far)));
+        distances.push(minimum(random.choose::<&[u8]>(&far)));
     }
     if random.once_in(4) {
         let contents = if random.once_in(3) { &[0] } else { *random.choose(&far) };
