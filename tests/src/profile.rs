@@ -2,6 +2,7 @@
 
 use crate::element::Element;
 use crate::object_identifiers as oid;
+use crate::random::Random;
 
 pub const ALL: &[u8] = &[1, 2, 3, 4];
 /// Profiles 1 and 2, which the paper calls S.
@@ -61,6 +62,10 @@ impl Standing {
 }
 
 pub const SLOTS: std::ops::RangeInclusive<u8> = 1..=11;
+
+pub fn any_slot(random: &mut Random) -> u8 {
+    random.between(usize::from(*SLOTS.start()), usize::from(*SLOTS.end())) as u8
+}
 
 pub fn standing(slot: u8, profile: u8) -> Standing {
     use Standing::*;

@@ -183,7 +183,7 @@ fn add_ten_years(faults: &mut Catalogue) {
     faults.add("too long from a 29 February", &[111], AUTHORITY, |pair, random, _| {
         let year = *random.choose(&[1952, 2024, 2040, 2048, 2096, 2396, 9972]);
         let start = Moment::at(year, 2, 29).later(random.below(DAY as usize) as i64);
-        // A day more would be 1 March, and the same day if the year had one.
+        // A day over is 1 March, where a count of months might put the end of February.
         too_long(pair, start, *random.choose(&[1, DAY]));
     });
     faults.add("too long at the end of all years", &[111], AUTHORITY, |pair, _, _| {

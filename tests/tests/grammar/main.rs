@@ -21,7 +21,7 @@ use comparison::holding::{rules_of, Comparison, AMPLE_ROOM};
 use comparison::malformed::{malformed, with_a_broken_time, with_every_field};
 use comparison::mutants::{outside_whole_and_mutated, whole_and_mutated, Mutants};
 use comparison::mutation::*;
-use comparison::profile::{identifier_of, judging_profile, standing, ALL, SLOTS};
+use comparison::profile::{any_slot, identifier_of, judging_profile, standing, ALL, SLOTS};
 use comparison::random::Random;
 use comparison::times::times_at_their_edges;
 use comparison::trees::{tree, value_like};

@@ -207,10 +207,6 @@ fn mutated_values() -> impl Iterator<Item = Question> {
     })
 }
 
-fn any_slot(random: &mut Random) -> u8 {
-    random.between(usize::from(*SLOTS.start()), usize::from(*SLOTS.end())) as u8
-}
-
 fn any_value(random: &mut Random) -> (u8, Vec<Part>) {
     let slot = any_slot(random);
     match random.below(4) {
