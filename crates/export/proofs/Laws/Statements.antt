@@ -89,15 +89,16 @@ write-back number profile certificate issuer room l =
 
 -- ---- one answer
 
-module _ (certificate issuer room : List ℕ) (number profile : ℕ) {r r′ : ℕ} {last last′ : List ℕ} where
-  abbrev linted : ℕ → List ℕ → Type 0
-  linted n after = (n ≡ packedValues (lintValues certificate issuer profile room)) × (after ≡ roomOf certificate issuer profile room)
+module _ (certificate issuer room : List ℕ) (number profile : ℕ) where
+  -- what the contracts allow: a number, and the room after the call
+  abbrev LintedAs : ℕ → List ℕ → Type 0
+  LintedAs n after = (n ≡ packedValues (lintValues certificate issuer profile room)) × (after ≡ roomOf certificate issuer profile room)
 
-  abbrev written : ℕ → List ℕ → Type 0
-  written n after = (n ≡ packedValues (writeValues number profile certificate issuer room)) × (after ≡ writeRoom number profile certificate issuer room)
+  abbrev PlacedAs : ℕ → List ℕ → Type 0
+  PlacedAs n after = (n ≡ packedValues (writeValues number profile certificate issuer room)) × (after ≡ writeRoom number profile certificate issuer room)
 
-  pub one-lint : linted r last → linted r′ last′ → (r ≡ r′) × (last ≡ last′)
-  one-lint a b = (a .0 ∙ sym (b .0), a .1 ∙ sym (b .1))
+  pub one-lint : (r r′ : ℕ) (last last′ : List ℕ) → LintedAs r last → LintedAs r′ last′ → (r ≡ r′) × (last ≡ last′)
+  one-lint r r′ last last′ a b = (a .0 ∙ sym (b .0), a .1 ∙ sym (b .1))
 
-  pub one-write : written r last → written r′ last′ → (r ≡ r′) × (last ≡ last′)
-  one-write a b = (a .0 ∙ sym (b .0), a .1 ∙ sym (b .1))
+  pub one-write : (r r′ : ℕ) (last last′ : List ℕ) → PlacedAs r last → PlacedAs r′ last′ → (r ≡ r′) × (last ≡ last′)
+  one-write r r′ last last′ a b = (a .0 ∙ sym (b .0), a .1 ∙ sym (b .1))
