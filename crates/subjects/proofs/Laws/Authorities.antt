@@ -9,7 +9,7 @@ use mathlib.Core.Bool.{Bool, true, false, not, _&&_}
 use Prim.Native.Nat.{ℕ, _+_, _-_, _≤_, _<_}
 use native.Mathlib.Omega.{arith}
 use lib.ListN.{length, take, drop, drop-of-length-le}
-use lib.Seq.{take-at, drop-at}
+use lib.Seq.{drop-at}
 use lib.Dec.{ltb, eqb}
 use borrow.Author.Tests.{ltb-true, ltb-false, not-true, not-false}
 use Rattle.subjects.specs.Authorities.{isNumberFromOne, isNumbered}
@@ -17,7 +17,7 @@ use Rattle.octets.specs.Characters.{isDigit, areDigits}
 use Rattle.octets.specs.Octets.{octetAt, octetsFrom}
 use Rattle.octets.specs.Same.{sameBy, exactly}
 use Rattle.octets.proofs.Laws.Octets.{octets-done, octets-next, octets-long}
-use Rattle.octets.proofs.Laws.Parts.{part-same, part-join}
+use Rattle.octets.proofs.Laws.Parts.{part-same, part-join, part-first}
 
 -- ---- octets tested for digits
 
@@ -55,9 +55,6 @@ number-read s body skip n first digits e f = rw (e, f) (number-there s body skip
 cut : (s : List ℕ) (at m n : ℕ) → m ≤ n → octetsFrom s at n ≡ octetsFrom s at m ++ octetsFrom s (at + m) (n - m)
 cut s at m n l = let e : n ≡ m + (n - m) = omega arith in part-same s at at n (m + (n - m)) refl e ∙ part-join s at m (n - m)
 
-first-octets : (s : List ℕ) (at m n : ℕ) → m ≤ n → take m (octetsFrom s at n) ≡ octetsFrom s at m
-first-octets s at m n l = ap (take m) (cut s at m n l) ∙ take-at (octetsFrom s at m) (octetsFrom s (at + m) (n - m)) m (octets-long s at m)
-
 other-octets : (s : List ℕ) (at m n : ℕ) → m ≤ n → drop m (octetsFrom s at n) ≡ octetsFrom s (at + m) (n - m)
 other-octets s at m n l = ap (drop m) (cut s at m n l) ∙ drop-at (octetsFrom s at m) (octetsFrom s (at + m) (n - m)) m (octets-long s at m)
 
@@ -82,7 +79,7 @@ numbered-cut s body n words true t =
     )
 numbered-cut s body n words false t =
     let l = ltb-false n (length words) t in
-    rw (first-octets s body (length words) n l, other-octets s body (length words) n l)
+    rw (part-first s body (length words) n l, other-octets s body (length words) n l)
 
 pub numbered-read : (s : List ℕ) (body n : ℕ) (words : List ℕ) (same number : Bool)
     → same ≡ sameBy exactly (octetsFrom s body (length words)) words
