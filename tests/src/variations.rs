@@ -319,6 +319,11 @@ fn vary_points(pair: &mut Pair, random: &mut Random) {
     let mut names = any_general_names(random);
     let address = random.choose(&["http://crl.agency.example/1", "HTTP://y", "http://?"]);
     names.push(uri(address));
+    set_extension(pair, 9, any_points(names, random));
+}
+
+/// A point whose full name has these names, among others that name nothing or are relative.
+fn any_points(mut names: Vec<Element>, random: &mut Random) -> Element {
     random.shuffle(&mut names);
     let mut points = vec![point(vec![full_name(names)])];
     if random.once_in(3) {
@@ -329,7 +334,7 @@ fn vary_points(pair: &mut Pair, random: &mut Random) {
         points.push(point(vec![relative_name(vec![attribute])]));
     }
     random.shuffle(&mut points);
-    set_extension(pair, 9, Element::sequence(points));
+    Element::sequence(points)
 }
 
 fn vary_other_extensions(pair: &mut Pair, random: &mut Random) {

@@ -1,7 +1,6 @@
 //! What the rules leave free at a subordinate CA: whatever document 02 does not name among them.
 
-use super::{add_other_extension, any_general_name, any_general_names, any_qualifiers, any_text};
-use crate::certificate::Attribute;
+use super::{add_other_extension, any_general_name, any_general_names, any_points, any_qualifiers};
 use crate::correct::*;
 use crate::element::{tag, Element};
 use crate::faults::values::malformed_hosts;
@@ -104,17 +103,7 @@ fn vary_points(pair: &mut Pair, random: &mut Random) {
     let mut names = any_general_names(random);
     names.retain(|name| name.identifier != uri("").identifier);
     names.extend((0..random.between(1, 3)).map(|_| any_http(random)));
-    random.shuffle(&mut names);
-    let mut points = vec![point(vec![full_name(names)])];
-    if random.once_in(3) {
-        points.push(point(vec![]));
-    }
-    if random.once_in(3) {
-        let attribute = Attribute::new(oid::common_name(), any_text(random)).element();
-        points.push(point(vec![relative_name(vec![attribute])]));
-    }
-    random.shuffle(&mut points);
-    pair.extension(9).set_value(Element::sequence(points));
+    pair.extension(9).set_value(any_points(names, random));
 }
 
 /// "What the constraints name is not judged."
