@@ -21,7 +21,7 @@
  *
  *     1  the certificate has no octets, or more than 8,192         side 1, place 0
  *     2  the issuer's certificate has no octets, or more           side 2, place 0
- *     3  the profile is not 1, 2 or 3                              side 0, place 0
+ *     3  the profile is not 1, 2, 3 or 4                           side 0, place 0
  *     4  not sound DER                                             its side, the first faulty element
  *     5  a SET whose members do not ascend                         its side, the first such SET
  *     6  not a certificate                                         its side, the first element not allowed there

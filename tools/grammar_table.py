@@ -9,7 +9,7 @@ import os
 ROOT = os.path.join(os.path.dirname(os.path.abspath(__file__)), '..', 'crates', 'asn')
 
 # ASN.1's own words. A type is a tuple of alternatives (identifier, contents); contents are a test's name, or a tuple of fields.
-TESTS = {t: i for i, t in enumerate('- free integer natural version yes oid bits named nothing utc generalized'.split())}
+TESTS = {t: i for i, t in enumerate('- free integer natural version yes oid bits named nothing utc generalized positive'.split())}
 def leaf(i, t): return ((i, t),)
 def seq(*fields): return ((0x30, fields),)
 def one(f): return (1, f)
@@ -22,6 +22,7 @@ def explicit(n, f): return ((0xA0 + n, (one(f),)),)
 def choice(*fs): return sum(fs, ())
 
 any_ = leaf(0, 'free'); true = leaf(1, 'yes'); integer = leaf(2, 'integer'); natural = leaf(2, 'natural')
+positive = leaf(2, 'positive')
 bits = leaf(3, 'bits'); named = leaf(3, 'named'); octets = leaf(4, 'free'); null = leaf(5, 'nothing')
 oid = leaf(6, 'oid'); ia5 = leaf(0x16, 'free'); free1 = leaf(0x81, 'free'); free2 = leaf(0x82, 'free')
 
@@ -44,7 +45,7 @@ general_name = choice(implicit(0, other_name), implicit(1, ia5), implicit(2, ia5
                       leaf(0xA5, 'free'), implicit(6, ia5), implicit(7, octets), implicit(8, oid))
 general_names = seq_of(general_name)
 aki = seq(opt(implicit(0, octets)), opt(implicit(1, general_names)), opt(implicit(2, integer)))
-constraints = seq(opt(true), opt(natural))
+basic_constraints = seq(opt(true), opt(natural))
 eku = seq_of(oid)
 qualifier = seq(one(oid), one(any_))
 policy = seq(one(oid), opt(seq_of(qualifier)))
@@ -54,13 +55,17 @@ aia = seq_of(access)
 point_name = choice(implicit(0, general_names), implicit(1, rdn))
 point = seq(opt(explicit(0, point_name)), opt(implicit(1, named)), opt(implicit(2, general_names)))
 points = seq_of(point)
+subtree = seq(one(general_name), opt(implicit(0, positive)), opt(implicit(1, natural)))
+subtrees = seq_of(subtree)
+name_constraints = seq(opt(implicit(0, subtrees)), opt(implicit(1, subtrees)))
 
-judged = [certificate, aki, constraints, octets, named, eku, policies, general_names, aia, points, null]
+judged = [certificate, aki, basic_constraints, octets, named, eku, policies, general_names, aia, points, null, name_constraints]
 types = [()] + judged + [
     tbs, algorithm, bits, oid, any_, explicit(0, version), integer, name, validity, spki, free1, free2, explicit(3, extensions),
     version, rdn, attribute, time, extensions, extension, true, octets, general_name, explicit(0, any_), implicit(0, octets),
     implicit(1, general_names), implicit(2, integer), natural, policy, seq_of(qualifier), qualifier, access, point,
-    explicit(0, point_name), implicit(1, named), implicit(2, general_names), point_name]
+    explicit(0, point_name), implicit(1, named), implicit(2, general_names), point_name,
+    implicit(0, subtrees), implicit(1, subtrees), subtree, implicit(0, positive), implicit(1, natural)]
 
 # The rows. The first run of fields stands for no type, and the last ones for a list that holds one judged element.
 alternatives, fields, form_row, field_row = [], [one(()), None], {}, {}
@@ -105,13 +110,14 @@ open(ROOT + '/src/table.rt', 'w').write('''// RFC 5280's types as tables of rows
 // times, and the row of its type. 0 ends the fields.
 ''' + const('FIELDS', FIELDS) + '''
 // The row of the fields of a list that holds a Certificate alone, and of one that holds alone the value of the
-// extension that rule 340+s judges, for s from 1 to 10.
+// extension that rule 340+s judges, for s from 1 to 11.
 ''' + const('ROOTS', ROOTS))
 
 NAMES = '''algorithmIdentifier attributeTypeAndValue relativeDistinguishedName name time validity subjectPublicKeyInfo extension
 extensions version tbsCertificate certificate otherName generalName generalNames authorityKeyIdentifier basicConstraints
 subjectKeyIdentifier keyUsage extKeyUsage policyQualifierInfo policyInformation certificatePolicies accessDescription
-authorityInfoAccess distributionPointName distributionPoint cRLDistributionPoints ocspNoCheck'''.split()
+authorityInfoAccess distributionPointName distributionPoint cRLDistributionPoints ocspNoCheck
+generalSubtree generalSubtrees nameConstraints'''.split()
 
 
 def antt(name, xs):

@@ -1,7 +1,7 @@
 //! An independent linter for certificates, with a deck writer, a deck reader and a lister.
 //!
-//! It is a second reading of the same paper as the proved linter ("document 01") and shares nothing with it,
-//! so that the two can be compared. Each rule stands in one place, under the words it comes from.
+//! It is a second reading of the same papers as the proved linter ("document 01" and the change requests of "document
+//! 02") and shares nothing with it, so that the two can be compared. Each rule stands in one place, under the words it comes from.
 //!
 //! | Module | Holds |
 //! |---|---|
@@ -11,8 +11,8 @@
 //! | `number`, `time` | what INTEGERs and times stand for |
 //! | `object_identifiers` | the identifiers that the rules name |
 //! | `name`, `certificate` | RFC 5280's Certificate: refusal 6 |
-//! | `values` | RFC 5280's extension values: rules 341 to 350 |
-//! | `profile` | the three profiles and the table of extensions |
+//! | `values` | RFC 5280's extension values: rules 341 to 351 |
+//! | `profile` | the four profiles, which rules they have, and the table of extensions |
 //! | `rules` | all other rules |
 //! | `report` | entries and their order |
 //! | `lint` | the refusals in their order, and the answer |

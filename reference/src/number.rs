@@ -1,9 +1,13 @@
 //! The numbers that the contents of sound INTEGERs stand for.
 
+/// Below zero.
+pub fn is_negative(contents: &[u8]) -> bool {
+    contents.first().is_some_and(|&octet| octet >= 0x80)
+}
+
 /// Above zero.
 pub fn is_positive(contents: &[u8]) -> bool {
-    let is_negative = contents.first().is_some_and(|&octet| octet >= 0x80);
-    !is_negative && !magnitude(contents).is_empty()
+    !is_negative(contents) && !magnitude(contents).is_empty()
 }
 
 /// The octets of a number that is not negative, without zeros at the front: no octets at all for zero.
@@ -91,6 +95,10 @@ mod tests {
 
     #[test]
     fn signs() {
+        assert!(is_negative(&[0x80]));
+        assert!(is_negative(&[0xFF, 0x00]));
+        assert!(!is_negative(&[0x00]));
+        assert!(!is_negative(&[0x00, 0x80]));
         assert!(!is_positive(&[0x00]));
         assert!(!is_positive(&[0x80]));
         assert!(is_positive(&[0x00, 0x80]));

@@ -48,6 +48,8 @@ pub const AUTHORITY_INFORMATION_ACCESS: &[u8] = &[0x2B, 0x06, 0x01, 0x05, 0x05, 
 pub const CRL_DISTRIBUTION_POINTS: &[u8] = &[0x55, 0x1D, 0x1F];
 /// 1.3.6.1.5.5.7.48.1.5
 pub const OCSP_NOCHECK: &[u8] = &[0x2B, 0x06, 0x01, 0x05, 0x05, 0x07, 0x30, 0x01, 0x05];
+/// 2.5.29.30
+pub const NAME_CONSTRAINTS: &[u8] = &[0x55, 0x1D, 0x1E];
 /// 2.5.29.16
 pub const PRIVATE_KEY_USAGE_PERIOD: &[u8] = &[0x55, 0x1D, 0x10];
 
@@ -120,6 +122,7 @@ mod tests {
             (AUTHORITY_INFORMATION_ACCESS, "1.3.6.1.5.5.7.1.1"),
             (CRL_DISTRIBUTION_POINTS, "2.5.29.31"),
             (OCSP_NOCHECK, "1.3.6.1.5.5.7.48.1.5"),
+            (NAME_CONSTRAINTS, "2.5.29.30"),
             (PRIVATE_KEY_USAGE_PERIOD, "2.5.29.16"),
             (SERVER_AUTHENTICATION, "1.3.6.1.5.5.7.3.1"),
             (CLIENT_AUTHENTICATION, "1.3.6.1.5.5.7.3.2"),

@@ -92,6 +92,14 @@ impl Date {
             && self.second <= 59
     }
 
+    /// The same month, day and time so many years on, or 28 February where that year has no 29 February. The year may
+    /// pass 9999: such a date is later than every time that can be written.
+    pub fn anniversary(self, years: u16) -> Date {
+        let year = self.year + years;
+        let day = self.day.min(days_in_month(year, self.month));
+        Date { year, day, ..self }
+    }
+
     /// Seconds since the start of the year 0.
     pub fn seconds(&self) -> i64 {
         let days = days_before_year(self.year)
@@ -197,6 +205,26 @@ mod tests {
                 }
             }
         }
+    }
+
+    #[test]
+    fn tenth_anniversaries() {
+        let tenth = |text: &str| generalized(text).map(|date| date.anniversary(10));
+        assert_eq!(tenth("20240131235959Z"), generalized("20340131235959Z"));
+        assert_eq!(tenth("20240229120000Z"), generalized("20340228120000Z"));
+        assert_eq!(tenth("20960229000001Z"), generalized("21060228000001Z"));
+        // 2036 has a 29 February, and a start on the 28th still ends on the 28th.
+        assert_eq!(tenth("20260228000000Z"), generalized("20360228000000Z"));
+    }
+
+    #[test]
+    fn an_anniversary_past_9999_is_later_than_every_time() {
+        let last = generalized("99991231235959Z").unwrap().seconds();
+        for start in ["99900101000000Z", "99960229000000Z", "99991231235959Z"] {
+            assert!(generalized(start).unwrap().anniversary(10).seconds() > last);
+        }
+        let before = generalized("99891231235959Z").unwrap();
+        assert_eq!(before.anniversary(10).seconds(), last);
     }
 
     #[test]

@@ -15,6 +15,16 @@ const SHOWN: usize = 3;
 /// The kind of a frame that asks whether its octets are sound DER.
 pub const ENCODING: u8 = 11;
 
+/// The kind of a frame that asks whether its octets are a value of an extension: its number in the table. The numbers
+/// from 11 to 14 were taken when the table got its eleventh row, so that row has the next.
+pub fn kind_of_value(slot: u8) -> u8 {
+    match slot {
+        1..=10 => slot,
+        11 => 15,
+        _ => panic!("the table has no row {slot}"),
+    }
+}
+
 /// What the program is asked: of what kind the question is, and octets.
 #[derive(Clone, Debug, PartialEq, Eq)]
 pub struct Frame {

@@ -1,11 +1,12 @@
 //! Extension values that are not exactly one sound element of their RFC 5280 type (rules 341 to
-//! 350), and values on the edge that are.
+//! 351), and values on the edge that are.
 
 use crate::certificate::{Attribute, Name, RelativeName};
-use crate::correct::{HOST, ISSUER_KEY_IDENTIFIER};
+use crate::correct::{plain_value, HOST, ISSUER_KEY_IDENTIFIER};
 use crate::element::{tag, Element, LengthForm, Part};
 use crate::general_names::*;
 use crate::object_identifiers as oid;
+use crate::profile::{judging_profile, AUTHORITY};
 
 /// A value and what is said about it.
 pub struct Value {
@@ -38,6 +39,7 @@ pub fn bad_values(slot: u8) -> Vec<Value> {
         8 => bad_accesses(),
         9 => bad_points(),
         10 => bad_nochecks(),
+        11 => bad_name_constraints(),
         _ => panic!("the table has no row {slot}"),
     };
     values.extend(bad_for_any(slot));
@@ -46,7 +48,7 @@ pub fn bad_values(slot: u8) -> Vec<Value> {
 
 /// Faults that every type of value can have, made of a good value.
 fn bad_for_any(slot: u8) -> Vec<Value> {
-    let good = crate::correct::plain_value(slot, if slot == 10 { 3 } else { 1 });
+    let good = plain_value(slot, judging_profile(slot));
     let whole = good.octets();
     let mut values = vec![octets("nothing", &[])];
     values.push(octets("one octet after the element", &[whole.as_slice(), &[0]].concat()));
@@ -351,6 +353,60 @@ fn bad_nochecks() -> Vec<Value> {
     ]
 }
 
+fn bad_name_constraints() -> Vec<Value> {
+    let good = || subtree(dns("agency.example"), vec![]);
+    let permitted = |subtrees: Vec<Element>| sequence(vec![subtree_list(0, subtrees)]);
+    let mut values = vec![
+        value("no subtree is permitted", permitted(vec![])),
+        value("no subtree is excluded", sequence(vec![subtree_list(1, vec![])])),
+        value("no subtree is excluded, one permitted", {
+            sequence(vec![subtree_list(0, vec![good()]), subtree_list(1, vec![])])
+        }),
+        value("excluded before permitted", {
+            sequence(vec![subtree_list(1, vec![good()]), subtree_list(0, vec![good()])])
+        }),
+        value(
+            "permitted twice",
+            sequence(vec![subtree_list(0, vec![good()]), subtree_list(0, vec![good()])]),
+        ),
+        value("an unknown list", sequence(vec![subtree_list(2, vec![good()])])),
+        value("a list without its tag", sequence(vec![sequence(vec![good()])])),
+        value("an explicit tag", sequence(vec![constructed(0, vec![sequence(vec![good()])])])),
+        value("a primitive list", sequence(vec![context(0, &[])])),
+        value("a name instead of a subtree", permitted(vec![dns("agency.example")])),
+        value("a subtree in a SET", permitted(vec![Element::set_of(vec![dns("agency.example")])])),
+        value("the second of two subtrees is empty", permitted(vec![good(), sequence(vec![])])),
+        value("a subtree without its base", permitted(vec![sequence(vec![minimum(&[1]), maximum(&[2])])])),
+        value("two bases", permitted(vec![sequence(vec![dns("a.b"), dns("a.b")])])),
+    ];
+    for (what, name) in bad_general_names() {
+        values.push(value(what, permitted(vec![good(), subtree(name, vec![])])));
+    }
+    for (what, distances) in bad_distances() {
+        values.push(value(what, sequence(vec![subtree_list(1, vec![subtree(dns("a.b"), distances)])])));
+    }
+    values
+}
+
+/// Distances behind the base of a subtree.
+fn bad_distances() -> [(&'static str, Vec<Element>); 13] {
+    [
+        ("a minimum of 0 written", vec![minimum(&[0])]),
+        ("a minimum of 0 with a maximum", vec![minimum(&[0]), maximum(&[1])]),
+        ("a negative minimum", vec![minimum(&[0xFF])]),
+        ("a minimum that is not minimal", vec![minimum(&[0, 1])]),
+        ("a minimum of 0 in two octets", vec![minimum(&[0, 0])]),
+        ("an empty minimum", vec![minimum(&[])]),
+        ("a constructed minimum", vec![constructed(0, vec![Element::integer(&[1])])]),
+        ("a negative maximum", vec![maximum(&[0x80])]),
+        ("an empty maximum", vec![maximum(&[])]),
+        ("a maximum that is not minimal", vec![maximum(&[0, 0x7F])]),
+        ("maximum before minimum", vec![maximum(&[2]), minimum(&[1])]),
+        ("an unknown distance", vec![context(2, &[1])]),
+        ("an INTEGER without its tag", vec![Element::integer(&[1])]),
+    ]
+}
+
 /// A good value with every field, and with every form of name where it holds names.
 pub fn fullest_value(slot: u8) -> Element {
     let names = every_form_of_name;
@@ -375,6 +431,12 @@ pub fn fullest_value(slot: u8) -> Element {
             point(vec![]),
         ]),
         10 => Element::null(),
+        11 => {
+            let bases = names().into_iter();
+            let near = vec![minimum(&[1]), maximum(&[0, 0x80])];
+            let permitted = bases.map(|base| subtree(base, vec![])).collect();
+            name_constraints(permitted, vec![subtree(uri("a"), near), subtree(uri("b"), vec![maximum(&[0])])])
+        }
         _ => panic!("the table has no row {slot}"),
     }
 }
@@ -413,15 +475,16 @@ pub fn nested_other_name(depth: usize) -> Element {
     general_names(vec![dns(HOST), other_name(oid::private_extension(), inner)])
 }
 
-/// A value that is good by the ASN.1, and the rules that it breaks at the OCTET STRING all the same.
+/// A value that is good by the ASN.1, and the rules that it breaks at the OCTET STRING all the same, where a profile has
+/// them.
 type EdgeValue = (Value, Vec<u16>);
 
 fn good(what: &str, element: Element) -> EdgeValue {
     (value(what, element), vec![])
 }
 
-fn breaking(rule: u16, what: &str, element: Element) -> EdgeValue {
-    (value(what, element), vec![rule])
+fn breaking(rules: &[u16], what: &str, element: Element) -> EdgeValue {
+    (value(what, element), rules.to_vec())
 }
 
 /// Values at the edge of what is good.
@@ -430,19 +493,21 @@ pub fn edge_values(slot: u8) -> Vec<EdgeValue> {
         1 => edge_authority_keys(),
         2 => edge_basic_constraints(),
         3 => vec![
-            breaking(403, "no octet", Element::octet_string(&[])),
-            breaking(403, "nineteen octets", Element::octet_string(&[1; 19])),
-            breaking(403, "twenty-one octets", Element::octet_string(&[1; 21])),
+            breaking(&[403], "no octet", Element::octet_string(&[])),
+            breaking(&[403], "nineteen octets", Element::octet_string(&[1; 19])),
+            breaking(&[403], "twenty-one octets", Element::octet_string(&[1; 21])),
         ],
         4 => vec![
-            breaking(404, "no bit", Element::bit_string(0, &[])),
-            breaking(405, "a bit past the named ones", named_bits(&[0, 9])),
-            breaking(405, "a bit far past the named ones", named_bits(&[0, 77])),
-            breaking(405, "decipherOnly, in the second octet", named_bits(&[0, 8])),
+            breaking(&[404, 422], "no bit", Element::bit_string(0, &[])),
+            breaking(&[405, 422], "a bit past the named ones", named_bits(&[0, 9])),
+            breaking(&[405, 422], "a bit far past the named ones", named_bits(&[0, 77])),
+            breaking(&[405, 422], "decipherOnly, in the second octet", named_bits(&[0, 8])),
+            breaking(&[404, 405], "what an authority needs and a bit far past", named_bits(&[5, 6, 77])),
         ],
         7 => vec![good("a host name twice", general_names(vec![dns(HOST), dns(HOST)]))],
         8 => vec![good("any form of name with an unknown method", accesses_of_every_form())],
         9 => edge_points(),
+        11 => edge_name_constraints(),
         _ => vec![],
     }
 }
@@ -451,22 +516,24 @@ fn edge_authority_keys() -> Vec<EdgeValue> {
     let key = || context(0, &ISSUER_KEY_IDENTIFIER);
     let nameless = constructed(1, vec![directory(&Name::default())]);
     vec![
-        breaking(401, "no field at all", sequence(vec![])),
+        breaking(&[401], "no field at all", sequence(vec![])),
         good("issuers without serial", sequence(vec![key(), constructed(1, vec![uri("")])])),
         good("serial without issuers", sequence(vec![key(), context(2, &[0x80])])),
         good("issuer in a name without sets", sequence(vec![key(), nameless])),
-        breaking(401, "serial alone", sequence(vec![context(2, &[0])])),
-        breaking(401, "key identifier empty", sequence(vec![context(0, &[])])),
+        breaking(&[401], "serial alone", sequence(vec![context(2, &[0])])),
+        breaking(&[401], "key identifier empty", sequence(vec![context(0, &[])])),
     ]
 }
 
 fn edge_basic_constraints() -> Vec<EdgeValue> {
     let long = vec![Element::boolean(true), Element::integer(&[0, 0x80])];
     vec![
-        breaking(402, "cA TRUE", sequence(vec![Element::boolean(true)])),
-        breaking(402, "a path length without cA", sequence(vec![Element::integer(&[0])])),
-        breaking(402, "cA with a path length of 128", sequence(long)),
-        breaking(402, "a path length of forty octets", sequence(vec![Element::integer(&[0x55; 40])])),
+        breaking(&[421], "empty", sequence(vec![])),
+        breaking(&[402, 421], "cA TRUE", sequence(vec![Element::boolean(true)])),
+        breaking(&[402, 421], "a path length without cA", sequence(vec![Element::integer(&[0])])),
+        breaking(&[402, 421], "cA with a path length of 128", sequence(long)),
+        breaking(&[402, 421], "a path length of forty octets", sequence(vec![Element::integer(&[0x55; 40])])),
+        breaking(&[402], "cA TRUE with a path length of 0", plain_value(2, AUTHORITY[0])),
     ]
 }
 
@@ -479,7 +546,7 @@ fn accesses_of_every_form() -> Element {
     let name = Name { sets: vec![RelativeName::of(two_attributes())], marks: vec![] };
     let unknown = |location: Element| access(oid::private_extension(), location);
     sequence(vec![
-        access(oid::access_by_ocsp(), uri("")),
+        access(oid::access_by_ocsp(), uri("http://a")),
         access(oid::access_to_issuers(), uri("http://a")),
         unknown(directory(&name)),
         unknown(x400(vec![])),
@@ -493,7 +560,31 @@ fn edge_points() -> Vec<EdgeValue> {
     let attributes = two_attributes().iter().map(Attribute::element).collect();
     let points = vec![point(vec![full_name(vec![uri("http://a")])]), point(vec![relative_name(attributes)])];
     vec![
-        breaking(418, "an empty point alone", sequence(vec![point(vec![])])),
+        breaking(&[418], "an empty point alone", sequence(vec![point(vec![])])),
         good("a relative name of two in order", sequence(points)),
     ]
+}
+
+fn edge_name_constraints() -> Vec<EdgeValue> {
+    let permitted =
+        |base: Element, distances: Vec<Element>| name_constraints(vec![subtree(base, distances)], vec![]);
+    let mut values = vec![
+        good("neither list", sequence(vec![])),
+        good("a minimum of 1", permitted(dns(""), vec![minimum(&[1])])),
+        good("a minimum of 128", permitted(dns(""), vec![minimum(&[0, 0x80])])),
+        good("a maximum of 0", permitted(dns(""), vec![maximum(&[0])])),
+        good("a maximum of 2040 bits", permitted(dns(""), vec![maximum(&[0x7F; 255])])),
+        good("a maximum below the minimum", permitted(dns(""), vec![minimum(&[9]), maximum(&[1])])),
+        good("excluded alone", name_constraints(vec![], vec![subtree(uri("\u{e9}"), vec![])])),
+        good("the same subtree twice", name_constraints(vec![subtree(dns("a"), vec![]); 2], vec![])),
+        good("a directory name without sets", permitted(directory(&Name::default()), vec![])),
+    ];
+    for length in [0, 1, 4, 5, 8, 16, 32, 33] {
+        values
+            .push(good("an address of any length", permitted(internet_address(&vec![0xFF; length]), vec![])));
+    }
+    values.extend(
+        every_form_of_name().into_iter().map(|name| good("any form of name", permitted(name, vec![]))),
+    );
+    values
 }

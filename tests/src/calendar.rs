@@ -53,6 +53,21 @@ impl Moment {
         Moment { seconds: days * DAY + fields.hour * 3600 + fields.minute * 60 + fields.second }
     }
 
+    /// The last second that a time can be written of.
+    pub fn last() -> Moment {
+        Moment::at(10_000, 1, 1).later(-1)
+    }
+
+    /// The same month, day and time so many years on; a 29 February ends on the 28th.
+    pub fn anniversary(self, years: i64) -> Moment {
+        let mut fields = self.fields();
+        fields.year += years;
+        if (fields.month, fields.day) == (2, 29) && !is_leap(fields.year) {
+            fields.day = 28;
+        }
+        Moment::at_time(fields)
+    }
+
     pub fn later(self, seconds: i64) -> Moment {
         Moment { seconds: self.seconds + seconds }
     }
@@ -97,4 +112,20 @@ impl Moment {
 fn rest_of(fields: Fields) -> String {
     let Fields { month, day, hour, minute, second, .. } = fields;
     format!("{month:02}{day:02}{hour:02}{minute:02}{second:02}Z")
+}
+
+#[cfg(test)]
+mod tests {
+    use super::*;
+
+    #[test]
+    fn anniversaries() {
+        assert_eq!(Moment::at(2024, 2, 29).later(7).anniversary(10), Moment::at(2034, 2, 28).later(7));
+        assert_eq!(Moment::at(2024, 2, 29).anniversary(4), Moment::at(2028, 2, 29));
+        assert_eq!(Moment::at(2026, 2, 28).anniversary(10), Moment::at(2036, 2, 28));
+        assert_eq!(
+            Moment::last().fields(),
+            Fields { year: 9999, month: 12, day: 31, hour: 23, minute: 59, second: 59 }
+        );
+    }
 }

@@ -11,17 +11,22 @@ use crate::element::{tag, Element, Encoded, Mark};
 use crate::general_names::*;
 use crate::keys;
 use crate::object_identifiers as oid;
-use crate::profile::{identifier_of, is_server, standing, SLOTS};
+use crate::profile::{identifier_of, is_authority, is_responder, is_server, standing, SLOTS};
 use crate::random::Random;
 use crate::variations::vary;
 
 pub const HOST: &str = "www.agency.example";
+
+/// What the CN of a subordinate CA says before its number, of production and of a test.
+pub const AUTHORITY_NAMES: [&str; 2] = ["US Federal TLS CA ", "US Federal Test TLS CA "];
 
 /// Key usage bits by their positions (RFC 5280, 4.2.1.3).
 pub mod usage {
     pub const DIGITAL_SIGNATURE: usize = 0;
     pub const KEY_ENCIPHERMENT: usize = 2;
     pub const KEY_AGREEMENT: usize = 4;
+    pub const KEY_CERTIFICATE_SIGN: usize = 5;
+    pub const CRL_SIGN: usize = 6;
 }
 
 /// A certificate and its issuer's, to be judged under a profile.
@@ -59,6 +64,14 @@ impl Pair {
     pub fn is_server(&self) -> bool {
         is_server(self.profile)
     }
+
+    pub fn is_responder(&self) -> bool {
+        is_responder(self.profile)
+    }
+
+    pub fn is_authority(&self) -> bool {
+        is_authority(self.profile)
+    }
 }
 
 /// The entries that the marks of an encoding call for, in the order of a report.
@@ -88,7 +101,7 @@ pub fn refusal(encoded: &Encoded, side: u8) -> Refusal {
 /// The plainest correct pair of a profile; always the same.
 pub fn plain(profile: u8) -> Pair {
     let mut random = Random::for_purpose("the plain certificate");
-    let issuer = plain_issuer(&mut random);
+    let issuer = plain_issuer(profile, &mut random);
     let certificate = plain_certificate(profile, &issuer, &mut random);
     Pair { profile, certificate, issuer }
 }
@@ -143,22 +156,26 @@ pub fn shortest_with_every_field() -> Certificate {
 
 pub const ISSUER_KEY_IDENTIFIER: [u8; 20] = *b"issuer's key, hashed";
 
-fn plain_issuer(random: &mut Random) -> Certificate {
-    let root = Name::of(vec![
+fn federal_name(common_name: &str) -> Name {
+    Name::of(vec![
         Attribute::new(oid::country(), Element::printable("US")),
         Attribute::new(oid::organization(), Element::printable("U.S. Government")),
-        Attribute::new(oid::common_name(), Element::printable("US Federal Root CA")),
-    ]);
-    let own = Name::of(vec![
-        Attribute::new(oid::country(), Element::printable("US")),
-        Attribute::new(oid::organization(), Element::printable("U.S. Government")),
-        Attribute::new(oid::common_name(), Element::printable("US Federal TLS CA 1")),
-    ]);
-    let mut issuer = bare_certificate(root, own, random);
-    let authority = Element::sequence(vec![Element::boolean(true), Element::integer(&[0])]);
+        Attribute::new(oid::common_name(), Element::printable(common_name)),
+    ])
+}
+
+/// A subordinate CA; the issuer of one is the root.
+fn plain_issuer(profile: u8, random: &mut Random) -> Certificate {
+    let root = || federal_name("US Federal Root CA");
+    let own = if is_authority(profile) { root() } else { federal_name("US Federal TLS CA 1") };
+    let mut constraints = vec![Element::boolean(true)];
+    if !is_authority(profile) {
+        constraints.push(Element::integer(&[0]));
+    }
+    let mut issuer = bare_certificate(root(), own, random);
     issuer.extensions = vec![
-        Extension::new(oid::basic_constraints(), true, authority),
-        Extension::new(oid::key_usage(), true, named_bits(&[5, 6])),
+        Extension::new(oid::basic_constraints(), true, Element::sequence(constraints)),
+        Extension::new(oid::key_usage(), true, named_bits(&AUTHORITY_USAGE)),
         Extension::new(oid::subject_key_identifier(), false, Element::octet_string(&ISSUER_KEY_IDENTIFIER)),
     ];
     issuer
@@ -204,6 +221,9 @@ fn bare_certificate(issuer: Name, subject: Name, random: &mut Random) -> Certifi
 }
 
 fn plain_subject(profile: u8) -> Name {
+    if is_authority(profile) {
+        return federal_name("US Federal TLS CA 1");
+    }
     let mut attributes = vec![Attribute::new(oid::country(), Element::printable("US"))];
     if profile >= 2 {
         attributes.push(Attribute::new(oid::organization(), Element::printable("U.S. Government")));
@@ -219,44 +239,71 @@ fn plain_subject(profile: u8) -> Name {
 pub fn plain_value(slot: u8, profile: u8) -> Element {
     match slot {
         1 => Element::sequence(vec![Element::primitive(tag::context(0), &ISSUER_KEY_IDENTIFIER)]),
-        2 => Element::sequence(vec![]),
+        2 => plain_constraints(profile),
         3 => Element::octet_string(b"subject's key hashed"),
-        4 => named_bits(&[usage::DIGITAL_SIGNATURE]),
+        4 => plain_usage(profile),
         5 => Element::sequence(vec![Element::object_identifier(&wanted_purpose(profile))]),
         6 => plain_policies(profile),
         7 => general_names(vec![dns(HOST)]),
         8 => plain_access(profile),
         9 => Element::sequence(vec![point(vec![full_name(vec![uri("http://crl.agency.example/list")])])]),
         10 => Element::null(),
+        11 => plain_name_constraints(),
         _ => panic!("the table has no row {slot}"),
     }
 }
 
-pub fn wanted_purpose(profile: u8) -> Vec<u8> {
-    if is_server(profile) {
-        oid::server_auth()
+/// The usages that an authority must name.
+pub const AUTHORITY_USAGE: [usize; 2] = [usage::KEY_CERTIFICATE_SIGN, usage::CRL_SIGN];
+
+fn plain_usage(profile: u8) -> Element {
+    if is_authority(profile) {
+        named_bits(&AUTHORITY_USAGE)
     } else {
-        oid::ocsp_signing()
+        named_bits(&[usage::DIGITAL_SIGNATURE])
     }
 }
 
-pub fn forum_policy(profile: u8) -> Option<Vec<u8>> {
+fn plain_constraints(profile: u8) -> Element {
+    if is_authority(profile) {
+        Element::sequence(vec![Element::boolean(true), Element::integer(&[0])])
+    } else {
+        Element::sequence(vec![])
+    }
+}
+
+fn plain_name_constraints() -> Element {
+    let everywhere = subtree(internet_address(&[0; 8]), vec![]);
+    name_constraints(vec![subtree(dns("agency.example"), vec![])], vec![everywhere])
+}
+
+pub fn wanted_purpose(profile: u8) -> Vec<u8> {
+    if is_responder(profile) {
+        oid::ocsp_signing()
+    } else {
+        oid::server_auth()
+    }
+}
+
+/// The policies of the forum of which a profile wants one at least.
+pub fn forum_policies(profile: u8) -> Vec<Vec<u8>> {
     match profile {
-        1 => Some(oid::domain_validated()),
-        2 => Some(oid::organization_validated()),
-        _ => None,
+        1 => vec![oid::domain_validated()],
+        2 => vec![oid::organization_validated()],
+        4 => vec![oid::domain_validated(), oid::organization_validated()],
+        _ => vec![],
     }
 }
 
 fn plain_policies(profile: u8) -> Element {
     let mut policies = vec![policy(oid::federal_policy(), vec![])];
-    policies.extend(forum_policy(profile).map(|identifier| policy(identifier, vec![])));
+    policies.extend(forum_policies(profile).into_iter().take(1).map(|identifier| policy(identifier, vec![])));
     Element::sequence(policies)
 }
 
 fn plain_access(profile: u8) -> Element {
     let mut entries = vec![access(oid::access_to_issuers(), uri("http://ca.agency.example/issuer.p7c"))];
-    if is_server(profile) {
+    if !is_responder(profile) {
         entries.insert(0, access(oid::access_by_ocsp(), uri("http://ocsp.agency.example")));
     }
     Element::sequence(entries)

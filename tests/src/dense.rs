@@ -5,57 +5,99 @@ use crate::certificate::{Certificate, Extension};
 use crate::correct::{shortest, Case, Pair};
 use crate::deck::{record_lines, Record};
 use crate::element::{Element, Mark};
-use crate::general_names::{dns, general_names, mail};
-use crate::profile::{identifier_of, is_server, standing, SLOTS};
+use crate::general_names::{dns, full_name, general_names, mail, point, uri};
+use crate::profile::{existing_rules, identifier_of, standing, SLOTS};
 use crate::records::{tiny_of, LONGEST_SIDE};
-
-/// The subject alternative name's row in the table of extensions.
-const ALTERNATIVE_NAME: u8 = 7;
-
-/// What a dense certificate of over 255 octets has besides its names.
-const OTHER_OCTETS: usize = 95;
 
 /// The names of a dense certificate, which are all alike.
 #[derive(Clone, Copy, Debug, PartialEq, Eq)]
 pub enum Names {
     /// `82 01 5F`, a dNSName "_": in a server's profile two findings, 413 and 414, for three octets, and nothing has more.
-    /// In the responder's profile 414 alone.
+    /// In the responder's profile 414 alone, in the subordinate CA's 413 alone.
     Underscores,
     /// `82 00` and `81 00` by turns, a dNSName and an rfc822Name without a character: one finding for two octets, 414 and
-    /// 412. In the responder's profile nothing has more.
+    /// 412. In the responder's profile nothing has more. The subordinate CA's has neither rule.
     Empty,
+    /// `86 00` in the full name of a CRL point, a URI without a character: in the subordinate CA's profile one finding for
+    /// two octets, 424, and nothing has more. No other profile has that rule.
+    Addresses,
 }
 
-pub const ALL_NAMES: [Names; 2] = [Names::Underscores, Names::Empty];
+pub const ALL_NAMES: [Names; 3] = [Names::Underscores, Names::Empty, Names::Addresses];
 
 impl Names {
+    /// The row in the table of the extension that they stand in: the alternative name or the CRL points.
+    fn slot(self) -> u8 {
+        match self {
+            Names::Underscores | Names::Empty => 7,
+            Names::Addresses => 9,
+        }
+    }
+
+    /// What a dense certificate of over 255 octets has besides its names.
+    fn other_octets(self) -> usize {
+        match self {
+            Names::Underscores | Names::Empty => 95,
+            // The point, its name and its full name have headers of four octets each.
+            Names::Addresses => 95 + 3 * 4,
+        }
+    }
+
     fn octets(self) -> usize {
         match self {
             Names::Underscores => 3,
-            Names::Empty => 2,
+            Names::Empty | Names::Addresses => 2,
         }
     }
 
     /// How many of them fit.
     pub fn most(self) -> usize {
-        (LONGEST_SIDE - OTHER_OCTETS) / self.octets()
+        (LONGEST_SIDE - self.other_octets()) / self.octets()
+    }
+
+    /// The octets that the most of them leave.
+    fn spare(self) -> usize {
+        LONGEST_SIDE - self.other_octets() - self.most() * self.octets()
     }
 
     /// How many findings each of them has.
     fn findings(self, profile: u8) -> usize {
-        if self == Names::Underscores && is_server(profile) {
-            2
-        } else {
-            1
-        }
+        self.rules(0, &existing_rules(profile)).count()
     }
 
-    fn at(self, position: usize, profile: u8) -> Element {
-        match self {
-            Names::Underscores if is_server(profile) => dns("_").breaking(413).breaking(414),
-            Names::Underscores => dns("_").breaking(414),
-            Names::Empty if position % 2 == 0 => dns("").breaking(414),
-            Names::Empty => mail("").breaking(412),
+    /// Which of these rules the name at a position breaks.
+    fn rules(self, position: usize, existing: &[u16]) -> impl Iterator<Item = u16> + '_ {
+        let rules: &[u16] = match self {
+            Names::Underscores => &[413, 414],
+            Names::Empty if position % 2 == 0 => &[414],
+            Names::Empty => &[412],
+            Names::Addresses => &[424],
+        };
+        rules.iter().copied().filter(|rule| existing.contains(rule))
+    }
+
+    fn at(self, position: usize, existing: &[u16]) -> Element {
+        let name = match self {
+            Names::Underscores => dns("_"),
+            Names::Empty if position % 2 == 0 => dns(""),
+            Names::Empty => mail(""),
+            Names::Addresses => uri(""),
+        };
+        self.rules(position, existing).fold(name, Element::breaking)
+    }
+
+    /// The extension with so many of them.
+    fn extension(self, count: usize, profile: u8) -> Extension {
+        let existing = existing_rules(profile);
+        let names = (0..count).map(|position| self.at(position, &existing)).collect();
+        let identifier = identifier_of(self.slot());
+        if self == Names::Addresses {
+            let points = Element::sequence(vec![point(vec![full_name(names)])]);
+            let mut extension = Extension::new(identifier, false, points);
+            extension.breaks_at_value(418);
+            extension
+        } else {
+            Extension::new(identifier, false, general_names(names))
         }
     }
 }
@@ -64,37 +106,40 @@ impl Names {
 /// it has 8,192 octets.
 pub fn dense(profile: u8, names: Names, count: usize) -> Case {
     let mut certificate = shortest();
-    mark_what_is_missing(&mut certificate, profile);
-    let value = general_names((0..count).map(|position| names.at(position, profile)).collect());
-    certificate.extensions.push(Extension::new(identifier_of(ALTERNATIVE_NAME), false, value));
+    mark_what_is_missing(&mut certificate, profile, names.slot());
+    certificate.extensions.push(names.extension(count, profile));
     if count == names.most() {
-        let spare = LONGEST_SIDE - OTHER_OCTETS - count * names.octets();
-        certificate.signature = Element::bit_string(0, &vec![0; spare]);
+        certificate.signature = Element::bit_string(0, &vec![0; names.spare()]);
     }
     Pair { profile, certificate, issuer: shortest() }.encode()
 }
 
 /// The densest record of a profile.
 pub fn densest(profile: u8) -> Case {
-    let names = if is_server(profile) { Names::Underscores } else { Names::Empty };
+    let names = match profile {
+        1 | 2 => Names::Underscores,
+        3 => Names::Empty,
+        _ => Names::Addresses,
+    };
     dense(profile, names, names.most())
 }
 
-/// What the shortest certificate breaks, with an alternative name and beside an issuer without a name.
-fn mark_what_is_missing(certificate: &mut Certificate, profile: u8) {
+/// What the shortest certificate breaks with one extension of the table and beside an issuer without a name.
+fn mark_what_is_missing(certificate: &mut Certificate, profile: u8, present: u8) {
     certificate.tbs_marks.push(Mark::Breaks(101));
     certificate.inner_algorithm.marks.push(Mark::Breaks(105));
     certificate.outer_algorithm.marks.push(Mark::Breaks(106));
     certificate.key_algorithm.marks.push(Mark::Breaks(201));
-    if profile == 3 {
+    let existing = existing_rules(profile);
+    if existing.contains(&104) {
         certificate.serial.marks.push(Mark::Breaks(104));
     }
-    for (rule, profiles) in [(113, &[1, 2, 3][..]), (114, &[1, 2, 3]), (116, &[2, 3]), (118, &[2])] {
-        if profiles.contains(&profile) {
+    for rule in [113, 114, 116, 118] {
+        if existing.contains(&rule) {
             certificate.subject.breaks(rule);
         }
     }
-    let missing = SLOTS.filter(|slot| *slot != ALTERNATIVE_NAME && standing(*slot, profile).is_mandatory());
+    let missing = SLOTS.filter(|slot| *slot != present && standing(*slot, profile).is_mandatory());
     certificate.list_marks.extend(missing.map(|slot| Mark::Breaks(300 + u16::from(slot))));
 }
 

@@ -1,13 +1,13 @@
 //! Single faults: each makes a correct pair break known rules at known places, and no others.
 
 mod extensions;
-mod fields;
+pub mod fields;
 pub mod key;
 pub mod values;
 
 use crate::correct::{correct, plain, set_extension, Pair, HOST};
 use crate::general_names::{dns, general_names};
-use crate::profile::is_server;
+use crate::profile::breaking_in;
 use crate::random::Random;
 
 /// What a fault changes or depends on. Faults that share nothing can be put into one certificate.
@@ -36,7 +36,7 @@ pub struct Fault {
     pub name: String,
     /// The rules that it breaks, each once or oftener.
     pub rules: Vec<u16>,
-    pub profiles: &'static [u8],
+    pub profiles: Vec<u8>,
     pub touches: Vec<Aspect>,
     apply: fn(&mut Pair, &mut Random, u8),
     /// Handed to `apply`, so that one function serves every row of the table of extensions.
@@ -90,17 +90,11 @@ struct Addition<'a> {
 }
 
 impl Addition<'_> {
-    fn add(
-        &mut self,
-        name: &str,
-        rules: &[u16],
-        profiles: &'static [u8],
-        apply: fn(&mut Pair, &mut Random, u8),
-    ) {
+    fn add(&mut self, name: &str, rules: &[u16], profiles: &[u8], apply: fn(&mut Pair, &mut Random, u8)) {
         self.catalogue.faults.push(Fault {
             name: name.to_string(),
             rules: rules.to_vec(),
-            profiles,
+            profiles: profiles.to_vec(),
             touches: self.touches.to_vec(),
             apply,
             slot: self.slot,
@@ -122,16 +116,15 @@ pub fn mix(profile: u8, faults: &[Fault], random: &mut Random) -> Pair {
     pair
 }
 
-/// As many findings as fit into a certificate: at a server two entries for three octets, because
-/// they are one label, and an underscore is in it.
+/// As many host names "_" as fit into a certificate: at a server two entries for three octets, because
+/// they are one label, and an underscore is in it; else one.
 pub fn densest(profile: u8) -> Pair {
     let mut pair = plain(profile);
     set_extension(&mut pair, 7, general_names(vec![dns(HOST)]));
+    let name = breaking_in(profile, 413, breaking_in(profile, 414, dns("_")));
     let bare = pair.encode().certificate.len();
     for _ in 0..(8192 - bare - 20) / 3 {
-        let name = dns("_").breaking(414);
-        let name = if is_server(profile) { name.breaking(413) } else { name };
-        pair.extension(7).value().push(name);
+        pair.extension(7).value().push(name.clone());
     }
     pair
 }

@@ -74,6 +74,35 @@ pub fn point(fields: Vec<Element>) -> Element {
     Element::sequence(fields)
 }
 
+/// Name constraints of the lists that are not empty.
+pub fn name_constraints(permitted: Vec<Element>, excluded: Vec<Element>) -> Element {
+    let lists = [permitted, excluded].into_iter().zip(0..).filter(|(subtrees, _)| !subtrees.is_empty());
+    let lists = lists.map(|(subtrees, number)| subtree_list(number, subtrees));
+    Element::sequence(lists.collect())
+}
+
+/// The list of permitted subtrees (0) or of excluded ones (1).
+pub fn subtree_list(number: u8, subtrees: Vec<Element>) -> Element {
+    Element::constructed(tag::context_constructed(number), subtrees)
+}
+
+/// A subtree of names: where it starts, and how far from there the names are that it holds.
+pub fn subtree(base: Element, distances: Vec<Element>) -> Element {
+    let mut members = vec![base];
+    members.extend(distances);
+    Element::sequence(members)
+}
+
+/// An INTEGER under the tag [0].
+pub fn minimum(contents: &[u8]) -> Element {
+    Element::primitive(tag::context(0), contents)
+}
+
+/// An INTEGER under the tag [1].
+pub fn maximum(contents: &[u8]) -> Element {
+    Element::primitive(tag::context(1), contents)
+}
+
 pub fn policy(identifier: Vec<u8>, qualifiers: Vec<Element>) -> Element {
     let mut members = vec![Element::object_identifier(&identifier)];
     if !qualifiers.is_empty() {

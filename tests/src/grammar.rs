@@ -1,7 +1,7 @@
 //! Octet strings with what the text of document 01 says of them, as certificates and as values of
 //! extensions, every octet and every place worked out by hand.
 
-/// The kind of the frame (0 for a certificate, else the extension's number in the table), the
+/// What is asked about (0 for a certificate, else the extension's number in the table), the
 /// octets, and the line that the program `answers` owes.
 pub type ByHand = &'static [(u8, &'static str, &'static str)];
 
@@ -153,4 +153,50 @@ pub const VALUES_BY_HAND: ByHand = &[
     (10, "05 01 00", "no value"),
     (10, "30 00", "no value"),
     (10, "", "no value"),
+    // Name constraints: either list, neither, both; the order; empty lists; unknown tags.
+    (11, "30 00", "value"),
+    (11, "30 06 A0 04 30 02 82 00", "value"),
+    (11, "30 06 A1 04 30 02 82 00", "value"),
+    (11, "30 0C A0 04 30 02 82 00 A1 04 30 02 82 00", "value"),
+    (11, "30 0C A1 04 30 02 82 00 A0 04 30 02 82 00", "no value"),
+    (11, "30 0C A0 04 30 02 82 00 A0 04 30 02 82 00", "no value"),
+    (11, "30 0A A0 08 30 02 82 00 30 02 82 00", "value"),
+    (11, "30 02 A0 00", "no value"),
+    (11, "30 02 A1 00", "no value"),
+    (11, "30 02 80 00", "no value"),
+    (11, "30 06 A2 04 30 02 82 00", "no value"),
+    (11, "30 06 30 04 30 02 82 00", "no value"),
+    (11, "30 04 A0 02 82 00", "no value"),
+    (11, "30 04 A0 02 30 00", "no value"),
+    (11, "05 00", "no value"),
+    // A minimum is not 0 where it is written, and neither distance is negative.
+    (11, "30 09 A0 07 30 05 82 00 80 01 00", "no value"),
+    (11, "30 09 A0 07 30 05 82 00 80 01 01", "value"),
+    (11, "30 09 A0 07 30 05 82 00 80 01 FF", "no value"),
+    (11, "30 09 A0 07 30 05 82 00 81 01 00", "value"),
+    (11, "30 09 A0 07 30 05 82 00 81 01 7F", "value"),
+    (11, "30 09 A0 07 30 05 82 00 81 01 80", "no value"),
+    (11, "30 0A A0 08 30 06 82 00 81 02 00 80", "value"),
+    (11, "30 0A A0 08 30 06 82 00 81 02 00 7F", "no value"),
+    (11, "30 08 A0 06 30 04 82 00 81 00", "no value"),
+    (11, "30 0C A0 0A 30 08 82 00 80 01 01 81 01 01", "value"),
+    (11, "30 0C A0 0A 30 08 82 00 81 01 01 80 01 01", "no value"),
+    (11, "30 0A A0 08 30 06 80 01 01 81 01 01", "no value"),
+    (11, "30 0B A0 09 30 07 82 00 A0 03 02 01 01", "no value"),
+    (11, "30 09 A0 07 30 05 82 00 02 01 01", "no value"),
+    (11, "30 09 A0 07 30 05 82 00 82 01 01", "no value"),
+    // The base is a name of any form, an address of any length.
+    (11, "30 0D A0 0B 30 09 A0 07 06 01 2A A0 02 05 00", "value"),
+    (11, "30 10 A0 0E 30 0C A0 07 06 01 2A A0 02 05 00 80 01 01", "value"),
+    (11, "30 06 A0 04 30 02 81 00", "value"),
+    (11, "30 06 A0 04 30 02 A3 00", "value"),
+    (11, "30 08 A0 06 30 04 A4 02 30 00", "value"),
+    (11, "30 06 A0 04 30 02 A4 00", "no value"),
+    (11, "30 06 A0 04 30 02 A5 00", "value"),
+    (11, "30 06 A0 04 30 02 86 00", "value"),
+    (11, "30 06 A0 04 30 02 87 00", "value"),
+    (11, "30 09 A0 07 30 05 87 03 01 02 03", "value"),
+    (11, "30 07 A0 05 30 03 88 01 2A", "value"),
+    (11, "30 06 A0 04 30 02 88 00", "no value"),
+    (11, "30 06 A0 04 30 02 89 00", "no value"),
 ];

@@ -121,6 +121,24 @@ pub fn use_good_rsa(certificate: &mut Certificate, random: &mut Random) {
     use_rsa(certificate, &modulus, &exponent);
 }
 
+/// RSA of 2048 bits or more, with whatever no rule of a subordinate CA asks about: any factors, exponent and parameters.
+pub fn use_any_long_rsa(certificate: &mut Certificate, random: &mut Random) {
+    let mut modulus = odd_number(*random.choose(&[2048, 2049, 2055, 2056, 3072, 4095, 4097, 6000]), random);
+    if random.once_in(2) {
+        subtract(&mut modulus, 1);
+    }
+    let exponents: [&[u8]; 5] = [&[1], &[2], &[3], &[1, 0, 1], &[0xFF; 40]];
+    let exponent = *random.choose(&exponents);
+    use_rsa(certificate, &modulus, exponent);
+    let parameters = match random.below(4) {
+        0 => None,
+        1 => Some(Element::octet_string(&[])),
+        2 => Some(Element::object_identifier(&oid::curve_p256())),
+        _ => Some(Element::null()),
+    };
+    certificate.key_algorithm = algorithm(oid::rsa_encryption(), parameters);
+}
+
 /// 65,537, the largest exponent that is allowed, or an odd number between.
 pub fn good_exponent(random: &mut Random) -> Vec<u8> {
     match random.below(4) {

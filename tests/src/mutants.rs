@@ -6,7 +6,7 @@ use crate::element::Part;
 use crate::faults::{catalogue, Fault};
 use crate::mutation::{mutate_element, mutate_octets};
 use crate::outside;
-use crate::profile::{identifier_of, ALL};
+use crate::profile::{any_slot, identifier_of, ALL};
 use crate::random::Random;
 
 /// The octets of a pair of which nothing is expected.
@@ -64,7 +64,7 @@ impl Mutants {
             let extension = &mut pair.certificate.extensions[position];
             match (random.below(8), extension.value.first_mut()) {
                 (0, _) => extension.critical = !extension.critical,
-                (1, _) => extension.identifier = identifier_of(random.between(1, 10) as u8),
+                (1, _) => extension.identifier = identifier_of(any_slot(random)),
                 (2, Some(Part::Octets(octets))) => mutate_octets(octets, random),
                 (_, Some(Part::Element(value))) => mutate_element(value, random),
                 (_, _) => {

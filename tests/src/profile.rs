@@ -1,19 +1,37 @@
-//! The three profiles: which rules exist in each, and how each extension stands.
+//! The four profiles: which rules exist in each, and how each extension stands.
 
+use crate::element::Element;
 use crate::object_identifiers as oid;
+use crate::random::Random;
 
-pub const ALL: &[u8] = &[1, 2, 3];
+pub const ALL: &[u8] = &[1, 2, 3, 4];
 /// Profiles 1 and 2, which the paper calls S.
 pub const SERVER: &[u8] = &[1, 2];
 /// Profile 3, which the paper calls O.
 pub const RESPONDER: &[u8] = &[3];
+/// Profile 4, subordinate CAs.
+pub const AUTHORITY: &[u8] = &[4];
 pub const DOMAIN: &[u8] = &[1];
 pub const ORGANIZATION: &[u8] = &[2];
 /// Profiles whose subject names an organization.
-pub const WITH_ORGANIZATION: &[u8] = &[2, 3];
+pub const WITH_ORGANIZATION: &[u8] = &[2, 3, 4];
+/// The profiles of document 01, whose certificates issue no others.
+pub const END_ENTITY: &[u8] = &[1, 2, 3];
+/// Profiles for servers and for those that issue to servers.
+pub const SERVER_AND_AUTHORITY: &[u8] = &[1, 2, 4];
+/// Profiles that take no other key than RSA.
+pub const WITH_RSA_ONLY: &[u8] = &[3, 4];
 
 pub fn is_server(profile: u8) -> bool {
     SERVER.contains(&profile)
+}
+
+pub fn is_responder(profile: u8) -> bool {
+    RESPONDER.contains(&profile)
+}
+
+pub fn is_authority(profile: u8) -> bool {
+    AUTHORITY.contains(&profile)
 }
 
 /// How an extension stands in a profile, in the words of the paper's table.
@@ -24,6 +42,8 @@ pub enum Standing {
     Optional,
     No,
     Other,
+    /// As if the table had no such row.
+    NotInTable,
 }
 
 impl Standing {
@@ -37,32 +57,50 @@ impl Standing {
 
     /// Whether the rules 320+s and 340+s speak of the extension.
     pub fn is_judged(self) -> bool {
-        !matches!(self, Standing::No | Standing::Other)
+        !matches!(self, Standing::No | Standing::Other | Standing::NotInTable)
     }
 }
 
-pub const SLOTS: std::ops::RangeInclusive<u8> = 1..=10;
+pub const SLOTS: std::ops::RangeInclusive<u8> = 1..=11;
+
+pub fn any_slot(random: &mut Random) -> u8 {
+    random.between(usize::from(*SLOTS.start()), usize::from(*SLOTS.end())) as u8
+}
 
 pub fn standing(slot: u8, profile: u8) -> Standing {
     use Standing::*;
-    let (server, responder) = match slot {
-        1 => (Mandatory, Mandatory),
-        2 => (MandatoryCritical, No),
-        3 => (Mandatory, Mandatory),
-        4 => (MandatoryCritical, MandatoryCritical),
-        5 => (Mandatory, MandatoryCritical),
-        6 => (Mandatory, Mandatory),
-        7 => (Mandatory, Optional),
-        8 => (Mandatory, Mandatory),
-        9 => (Optional, Optional),
-        10 => (Other, Mandatory),
+    let (server, responder, authority) = match slot {
+        1 => (Mandatory, Mandatory, Mandatory),
+        2 => (MandatoryCritical, No, MandatoryCritical),
+        3 => (Mandatory, Mandatory, Mandatory),
+        4 => (MandatoryCritical, MandatoryCritical, MandatoryCritical),
+        5 => (Mandatory, MandatoryCritical, Mandatory),
+        6 => (Mandatory, Mandatory, Mandatory),
+        7 => (Mandatory, Optional, Optional),
+        8 => (Mandatory, Mandatory, Mandatory),
+        9 => (Optional, Optional, Mandatory),
+        10 => (Other, Mandatory, Other),
+        11 => (NotInTable, NotInTable, MandatoryCritical),
         _ => panic!("the table has no row {slot}"),
     };
-    if is_server(profile) {
-        server
-    } else {
-        responder
+    match profile {
+        1 | 2 => server,
+        3 => responder,
+        4 => authority,
+        _ => panic!("there is no profile {profile}"),
     }
+}
+
+/// The profiles in which an extension stands in a certain way.
+pub fn profiles_where(slot: u8, holds: fn(Standing) -> bool) -> Vec<u8> {
+    ALL.iter().copied().filter(|profile| holds(standing(slot, *profile))).collect()
+}
+
+/// A profile in which the values of an extension are judged.
+pub fn judging_profile(slot: u8) -> u8 {
+    *profiles_where(slot, Standing::is_judged)
+        .first()
+        .expect("every extension of the table is judged somewhere")
 }
 
 pub fn identifier_of(slot: u8) -> Vec<u8> {
@@ -77,11 +115,12 @@ pub fn identifier_of(slot: u8) -> Vec<u8> {
         8 => oid::authority_information_access(),
         9 => oid::crl_distribution_points(),
         10 => oid::ocsp_nocheck(),
+        11 => oid::name_constraints(),
         _ => panic!("the table has no row {slot}"),
     }
 }
 
-/// Every rule that a certificate of this profile can break, as the paper lists them.
+/// Every rule that a certificate of this profile can break, as the papers list them.
 pub fn existing_rules(profile: u8) -> Vec<u16> {
     let mut rules = rules_on_fields(profile);
     for slot in SLOTS {
@@ -100,23 +139,38 @@ pub fn existing_rules(profile: u8) -> Vec<u16> {
     rules
 }
 
-fn rules_on_fields(profile: u8) -> Vec<u16> {
-    let mut rules = vec![101, 102, 103, 105, 106, 107, 108, 109, 110, 111, 112, 113, 114, 115];
-    rules.extend([201, 202, 204, 205, 206]);
-    match profile {
-        1 => rules.extend([120, 203]),
-        2 => rules.extend([116, 117, 118, 119, 120, 203]),
-        _ => rules.extend([104, 116, 117, 121, 207]),
+pub fn has_rule(profile: u8, rule: u16) -> bool {
+    existing_rules(profile).contains(&rule)
+}
+
+/// The element, marked with a rule where the profile has it.
+pub fn breaking_in(profile: u8, rule: u16, element: Element) -> Element {
+    if has_rule(profile, rule) {
+        element.breaking(rule)
+    } else {
+        element
     }
+}
+
+fn rules_on_fields(profile: u8) -> Vec<u16> {
+    let mut rules = vec![101, 102, 103, 105, 106, 107, 108, 109, 110, 111, 112, 113, 114, 115, 201, 204];
+    rules.extend(match profile {
+        1 => &[120, 202, 203, 205, 206][..],
+        2 => &[116, 117, 118, 119, 120, 202, 203, 205, 206],
+        3 => &[104, 116, 117, 121, 202, 205, 206, 207],
+        4 => &[116, 117, 122, 208],
+        _ => panic!("there is no profile {profile}"),
+    });
     rules
 }
 
 fn rules_on_values(profile: u8) -> Vec<u16> {
-    let mut rules = vec![361, 401, 403, 404, 405, 407, 408, 409, 411, 412, 414, 416, 418, 419];
-    if is_server(profile) {
-        rules.extend([363, 402, 410, 413, 415, 417]);
-    } else {
-        rules.push(362);
-    }
+    let mut rules = vec![361, 401, 403, 407, 409, 416, 418, 419];
+    rules.extend(match profile {
+        1 | 2 => &[363, 402, 404, 405, 408, 410, 411, 412, 413, 414, 415, 417][..],
+        3 => &[362, 404, 405, 408, 411, 412, 414],
+        4 => &[410, 413, 415, 417, 421, 422, 423, 424],
+        _ => panic!("there is no profile {profile}"),
+    });
     rules
 }

@@ -8,6 +8,7 @@ use crate::damage::{change_octet, push_spoiled};
 use crate::deck::{listing_of, Deck, Record, CHECK};
 use crate::faults::catalogue;
 use crate::holding::AMPLE_ROOM;
+use crate::profile::{AUTHORITY, END_ENTITY};
 use crate::random::Random;
 use crate::records::refused;
 
@@ -27,8 +28,8 @@ pub fn sample_deck() -> Deck {
         number += 1;
         Record { number, case }
     };
-    for profile in 1..=3 {
-        deck.push_record(&next(plain(profile).encode()));
+    for profile in END_ENTITY {
+        deck.push_record(&next(plain(*profile).encode()));
     }
     for (profile, names) in FAULTS {
         deck.push_record(&next(faulty(profile, names, &mut random)));
@@ -43,6 +44,11 @@ pub fn sample_deck() -> Deck {
         deck.push_record(&next(case));
     }
     deck.push_record(&next(plain(1).encode()));
+    // Behind the rest, which keep their places.
+    for profile in AUTHORITY {
+        deck.push_record(&next(plain(*profile).encode()));
+        deck.push_record(&next(faulty(*profile, FAULTS_OF_AUTHORITY, &mut random)));
+    }
     deck.push_lost(&[0; 512], Loss::Unsound);
     deck.push_lost(&[0xFF; 100], Loss::Short);
     deck
@@ -55,6 +61,13 @@ const FAULTS: [(u8, &[&str]); 5] = [
     (2, &["valid a second too long or more", "C not the PrintableString US"]),
     (3, &["serial of 7 octets or fewer"]),
     (3, &["three odd purposes, two alike", "no key identifier of the authority"]),
+];
+
+const FAULTS_OF_AUTHORITY: &[&str] = &[
+    "too long from a 29 February",
+    "CN not the name of a subordinate CA",
+    "not both keyCertSign and cRLSign",
+    "three URIs of two points not HTTP",
 ];
 
 fn faulty(profile: u8, names: &[&str], random: &mut Random) -> Case {

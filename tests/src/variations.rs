@@ -1,5 +1,7 @@
 //! Variations of a correct certificate that stay correct.
 
+mod authority;
+
 use crate::calendar::{Fields, Moment, DAY};
 use crate::certificate::{Attribute, Extension, KeyKind, Name, RelativeName};
 use crate::correct::*;
@@ -7,7 +9,6 @@ use crate::element::{tag, Element, Part};
 use crate::general_names::*;
 use crate::keys;
 use crate::object_identifiers as oid;
-use crate::profile::is_server;
 use crate::random::Random;
 
 /// Varies everything that the rules leave free.
@@ -15,20 +16,28 @@ pub fn vary(pair: &mut Pair, random: &mut Random) {
     vary_serial(pair, random);
     vary_names(pair, random);
     vary_validity(pair, random);
-    vary_key_and_usage(pair, random);
     vary_identifiers(pair, random);
+    if pair.is_authority() {
+        authority::vary(pair, random);
+    } else {
+        vary_end_entity(pair, random);
+    }
+    vary_the_unread(pair, random);
+    random.shuffle(&mut pair.certificate.extensions);
+}
+
+fn vary_end_entity(pair: &mut Pair, random: &mut Random) {
+    vary_key_and_usage(pair, random);
     vary_purposes(pair, random);
     vary_policies(pair, random);
     vary_host_names(pair, random);
     vary_access(pair, random);
     vary_points(pair, random);
     vary_other_extensions(pair, random);
-    vary_the_unread(pair, random);
-    random.shuffle(&mut pair.certificate.extensions);
 }
 
 fn vary_serial(pair: &mut Pair, random: &mut Random) {
-    let least = if pair.is_server() { 1 } else { 8 };
+    let least = if pair.is_responder() { 8 } else { 1 };
     pair.certificate.serial = Element::integer(&positive_contents(random.between(least, 20), random));
 }
 
@@ -49,24 +58,24 @@ fn vary_names(pair: &mut Pair, random: &mut Random) {
         pair.issuer.subject = any_name(random);
         pair.certificate.issuer = pair.issuer.subject.clone();
     }
-    let server = pair.is_server();
+    let responder = pair.is_responder();
     let subject = &mut pair.certificate.subject;
     if pair.profile == 3 && random.once_in(2) {
         for _ in 0..random.between(1, 3) {
             subject.push(Attribute::new(oid::organizational_unit(), any_text(random)));
         }
     }
-    if pair.profile >= 2 && random.once_in(2) {
+    if [2, 3].contains(&pair.profile) && random.once_in(2) {
         subject.attribute(&oid::organization()).value = Element::utf8("U.S. Government");
     }
     if pair.profile == 2 && random.once_in(2) {
         subject.attribute(&oid::state()).value = Element::utf8("District of Columbia");
     }
     random.shuffle(&mut subject.sets);
-    if server && random.once_in(3) {
+    if !responder && random.once_in(3) {
         join_two_sets(subject);
     }
-    if pair.profile == 3 {
+    if responder {
         subject.attribute(&oid::common_name()).value = any_text(random);
     }
 }
@@ -98,25 +107,26 @@ fn any_text(random: &mut Random) -> Element {
     Element::primitive(*random.choose(&kinds), &text)
 }
 
-/// The longest validity of a profile, in seconds.
-pub fn longest_validity(profile: u8) -> i64 {
-    if is_server(profile) {
-        395 * DAY
-    } else {
-        45 * DAY
+/// The longest validity that a profile allows from a moment on, in seconds.
+pub fn longest_validity(profile: u8, not_before: Moment) -> i64 {
+    match profile {
+        1 | 2 => 395 * DAY,
+        3 => 45 * DAY,
+        4 => not_before.anniversary(10).seconds - not_before.seconds,
+        _ => panic!("there is no profile {profile}"),
     }
 }
 
 fn vary_validity(pair: &mut Pair, random: &mut Random) {
     let not_before = any_moment(random);
-    let longest = longest_validity(pair.profile);
+    let longest = longest_validity(pair.profile, not_before);
     let seconds = match random.below(4) {
         0 => longest,
         1 => 0,
         _ => random.below(longest as usize + 1) as i64,
     };
     pair.certificate.not_before = not_before.due_form();
-    pair.certificate.not_after = not_before.later(seconds).due_form();
+    pair.certificate.not_after = not_before.later(seconds).min(Moment::last()).due_form();
 }
 
 /// A moment from 1950 to 9990, most often near today or near the change of form.
@@ -215,7 +225,9 @@ fn vary_purposes(pair: &mut Pair, random: &mut Random) {
 fn vary_policies(pair: &mut Pair, random: &mut Random) {
     let federal = if random.once_in(2) { oid::federal_policy() } else { oid::federal_policy_long() };
     let mut policies = vec![policy(federal, any_qualifiers(random))];
-    policies.extend(forum_policy(pair.profile).map(|identifier| policy(identifier, any_qualifiers(random))));
+    for identifier in forum_policies(pair.profile) {
+        policies.push(policy(identifier, any_qualifiers(random)));
+    }
     if random.once_in(3) {
         policies.push(policy(oid::any_policy(), vec![]));
     }
@@ -307,6 +319,11 @@ fn vary_points(pair: &mut Pair, random: &mut Random) {
     let mut names = any_general_names(random);
     let address = random.choose(&["http://crl.agency.example/1", "HTTP://y", "http://?"]);
     names.push(uri(address));
+    set_extension(pair, 9, any_points(names, random));
+}
+
+/// A point whose full name has these names, among others that name nothing or are relative.
+fn any_points(mut names: Vec<Element>, random: &mut Random) -> Element {
     random.shuffle(&mut names);
     let mut points = vec![point(vec![full_name(names)])];
     if random.once_in(3) {
@@ -317,27 +334,34 @@ fn vary_points(pair: &mut Pair, random: &mut Random) {
         points.push(point(vec![relative_name(vec![attribute])]));
     }
     random.shuffle(&mut points);
-    set_extension(pair, 9, Element::sequence(points));
+    Element::sequence(points)
 }
 
 fn vary_other_extensions(pair: &mut Pair, random: &mut Random) {
-    let mut add = |identifier: Vec<u8>, critical: bool, random: &mut Random| {
-        let length = random.below(30);
-        let mut extension = Extension::new(identifier, critical, Element::null());
-        // What an extension outside the table holds is free, even if it is not DER.
-        extension.value = vec![Part::Octets(random.octets(length))];
-        pair.certificate.extensions.push(extension);
-    };
-    if is_server(pair.profile) {
-        for identifier in [oid::transparency_list(), oid::ocsp_nocheck(), oid::private_key_usage_period()] {
+    if pair.is_server() {
+        let others = [
+            oid::transparency_list(),
+            oid::ocsp_nocheck(),
+            oid::private_key_usage_period(),
+            oid::name_constraints(),
+        ];
+        for identifier in others {
             if random.once_in(3) {
-                add(identifier, false, random);
+                add_other_extension(pair, identifier, false, random);
             }
         }
     } else if random.once_in(3) {
         let critical = random.once_in(2);
-        add(oid::private_key_usage_period(), critical, random);
+        add_other_extension(pair, oid::private_key_usage_period(), critical, random);
     }
+}
+
+/// What an extension outside the table holds is free, even if it is not DER.
+fn add_other_extension(pair: &mut Pair, identifier: Vec<u8>, critical: bool, random: &mut Random) {
+    let length = random.below(30);
+    let mut extension = Extension::new(identifier, critical, Element::null());
+    extension.value = vec![Part::Octets(random.octets(length))];
+    pair.certificate.extensions.push(extension);
 }
 
 /// Fields that are read and never judged.

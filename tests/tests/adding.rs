@@ -8,8 +8,11 @@ use std::process::{Command, Output};
 use comparison::commands::{command, file, folder, full_disk, open, outcome, repository, words, SAID};
 use comparison::correct::Case;
 use comparison::deck::{Record, BLOCK};
+use comparison::holding::AMPLE_ROOM;
 use comparison::random::Random;
 use comparison::records::{largest, linted, tiny};
+use comparison::sample::sample_deck;
+use reference::{Event, Loss};
 
 /// A deck, a record's two sides as files, and the folder that they are in.
 struct Desk {
@@ -94,6 +97,15 @@ fn whole_sample() -> Vec<u8> {
     deck
 }
 
+/// How many records the sample has, and how many of its whole blocks are lost.
+fn counts_of_sample() -> (usize, usize) {
+    let events = sample_deck().events(AMPLE_ROOM);
+    let is_torn = |event: &Event| matches!(event, Event::Lost { loss: Loss::Short, .. });
+    let records = events.iter().filter(|event| matches!(event, Event::Record { .. })).count();
+    let torn = events.iter().filter(|event| is_torn(event)).count();
+    (records, events.len() - records - torn)
+}
+
 #[test]
 fn records_are_added_as_the_other_form_writes_them() {
     let mut random = Random::for_purpose("records added");
@@ -123,13 +135,14 @@ fn a_torn_deck_is_refused_until_it_is_mended() {
         let name = desk.deck.display();
         let mending = format!("truncate -s /512 {name}");
         let due = format!("{name}: the last {torn} octets are no whole block, so nothing was added; `{mending}` cuts them off\n");
-        desk.hold_refused(&outcome(&mut desk.adding("14")), &before, &due);
+        let (records, lost) = counts_of_sample();
+        desk.hold_refused(&outcome(&mut desk.adding("17")), &before, &due);
         // What was said mends the deck, and then every record of it is listed, the new one too.
         assert!(outcome(Command::new("sh").args(["-c", &mending])).status.success());
         assert!(desk.octets() == whole);
-        desk.hold_added(&outcome(&mut desk.adding("14")), &whole, 14);
-        let blocks = whole.len() / BLOCK + desk.record(14).blocks().len();
-        assert_eq!(desk.counts(), format!("records 14 blocks {blocks} lost 5"));
+        desk.hold_added(&outcome(&mut desk.adding("17")), &whole, 17);
+        let blocks = whole.len() / BLOCK + desk.record(17).blocks().len();
+        assert_eq!(desk.counts(), format!("records {} blocks {blocks} lost {lost}", records + 1));
         desk.finish();
     }
 }
@@ -142,12 +155,14 @@ fn records_behind_a_torn_end_are_found_again_once_it_is_cut_out() {
         let case = linted(&mut Random::for_purpose("records behind a torn end"));
         let Some(desk) = Desk::with("behind", &[], case) else { return };
         let later: Vec<u8> =
-            [14, 15].iter().flat_map(|&number| desk.record(number).blocks().concat()).collect();
+            [17, 18].iter().flat_map(|&number| desk.record(number).blocks().concat()).collect();
         fs::write(&desk.deck, [&whole[..], &vec![0xA5; torn], &later[..]].concat())
             .expect("the deck is written");
         let blocks = (whole.len() + later.len()) / BLOCK;
-        let lost = 5 + later.len() / BLOCK + 1;
-        assert_eq!(desk.counts(), format!("records 13 blocks {} lost {lost}", blocks + 1));
+        let (records, lost) = counts_of_sample();
+        let lost_with_them = lost + later.len() / BLOCK + 1;
+        let due = format!("records {records} blocks {} lost {lost_with_them}", blocks + 1);
+        assert_eq!(desk.counts(), due);
         let (name, mended) = (desk.deck.display(), desk.folder.join("mended"));
         let (position, length) = (whole.len() / BLOCK, desk.octets().len());
         let cutting = format!(
@@ -157,7 +172,7 @@ fn records_behind_a_torn_end_are_found_again_once_it_is_cut_out() {
         assert!(outcome(Command::new("sh").args(["-c", &cutting])).status.success());
         fs::rename(&mended, &desk.deck).expect("the mended deck takes the other's place");
         assert!(desk.octets() == [&whole[..], &later[..]].concat());
-        assert_eq!(desk.counts(), format!("records 15 blocks {blocks} lost 5"));
+        assert_eq!(desk.counts(), format!("records {} blocks {blocks} lost {lost}", records + 2));
         desk.finish();
     }
 }
@@ -178,7 +193,7 @@ fn a_refused_record_leaves_the_deck_alone() {
     let no_file = format!("{missing}: No such file or directory\n");
     let calls: [(&[&str], &str); 8] = [
         (&[deck, "0", "1", sides[0], sides[1]], "refused 8: the record number is 0\n"),
-        (&[deck, "1", "4", sides[0], sides[1]], "refused 3: the profile is not 1, 2 or 3\n"),
+        (&[deck, "1", "5", sides[0], sides[1]], "refused 3: the profile is not 1, 2, 3 or 4\n"),
         (
             &[deck, "1", "1", empty, sides[1]],
             "refused 1: the certificate has no octets, or more than 8,192\n",

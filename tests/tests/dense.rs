@@ -35,13 +35,17 @@ fn lines_with(listing: &str, front: &str) -> usize {
 
 /// A certificate of the most names: its profile and names, how many rules it breaks by what it lacks, how many names it
 /// has, and the rules that they break.
-const KNOWN: [(u8, Names, usize, usize, &[u16]); 6] = [
+const KNOWN: [(u8, Names, usize, usize, &[u16]); 10] = [
     (1, Names::Underscores, 13, 2_699, &[413, 414]),
     (2, Names::Underscores, 15, 2_699, &[413, 414]),
     (3, Names::Underscores, 15, 2_699, &[414]),
     (1, Names::Empty, 13, 4_048, &[412, 414]),
     (2, Names::Empty, 15, 4_048, &[412, 414]),
     (3, Names::Empty, 15, 4_048, &[412, 414]),
+    (4, Names::Underscores, 16, 2_699, &[413]),
+    (4, Names::Empty, 16, 4_048, &[]),
+    (4, Names::Addresses, 16, 4_042, &[424]),
+    (1, Names::Addresses, 15, 4_042, &[]),
 ];
 
 #[test]
@@ -180,10 +184,11 @@ fn deck_listed_in(octets: usize, profile: u8, names: Names, random: &mut Random)
 #[test]
 fn listings_that_end_at_an_edge() {
     // Every edge that seven records reach, and twice as many octets as wait.
-    const SHAPES: [(u8, Names, &[usize]); 3] = [
+    const SHAPES: [(u8, Names, &[usize]); 4] = [
         (1, Names::Underscores, &[1, 2, 3, 4, 5, 6, 7, 8, 9, 10, 11, 12, 13]),
         (2, Names::Underscores, &[6, 12]),
         (3, Names::Empty, &[1, 6, 9]),
+        (4, Names::Addresses, &[1, 6, 9]),
     ];
     let mut listers = Listers::of("listings around multiples of 65,536 octets");
     let mut random = Random::for_purpose("listings that end at an edge");

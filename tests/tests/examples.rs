@@ -11,7 +11,7 @@ use comparison::holding::AMPLE_ROOM;
 use comparison::keys::{use_good_elliptic_curve, use_rsa};
 use comparison::linters::hold_at_once;
 use comparison::object_identifiers as oid;
-use comparison::profile::{ALL, SERVER};
+use comparison::profile::{ALL, END_ENTITY, SERVER};
 use comparison::random::Random;
 use reference::{block_check, lint, listing, soundness, write_record, Answer, Refusal, Soundness};
 
@@ -195,9 +195,9 @@ fn what_the_program_prints_for_findings() {
 }
 
 #[test]
-fn the_exponent_65537_is_good_for_all() {
+fn the_exponent_65537_is_good_for_all_that_judge_it() {
     let mut random = Random::for_purpose("the exponent");
-    for profile in ALL {
+    for profile in END_ENTITY {
         let mut pair = plain(*profile);
         let modulus = comparison::keys::good_modulus(2048, &mut random);
         use_rsa(&mut pair.certificate, &modulus, &hex::octets("01 00 01"));
@@ -210,7 +210,7 @@ fn the_exponent_65537_is_good_for_all() {
 
 #[test]
 fn trap_three_bad_purposes_are_three_entries() {
-    for profile in ALL {
+    for profile in END_ENTITY {
         let mut pair = plain(*profile);
         for identifier in [oid::code_signing(), oid::code_signing(), oid::email_protection()] {
             pair.extension(5).value().push(Element::object_identifier(&identifier).breaking(408));

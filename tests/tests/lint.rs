@@ -5,7 +5,7 @@
 use std::collections::BTreeSet;
 
 use comparison::amount::{cases, say};
-use comparison::calendar::{Fields, Moment, DAY};
+use comparison::calendar::{days_of_month, Fields, Moment, DAY};
 use comparison::calls::{Call, Linter};
 use comparison::certificate::{Certificate, Extension};
 use comparison::correct::{correct, plain, set_extension, shortest, shortest_with_every_field, Case, Pair};
@@ -49,7 +49,7 @@ fn every_fault_is_judged_alike_under_every_profile() {
     let mut linter = Linter::of("certificates with a single fault, under every profile");
     let mut random = Random::for_purpose("faults under every profile");
     let faults = catalogue();
-    let rounds = cases(9_000).div_ceil(9 * faults.len());
+    let rounds = cases(12_000).div_ceil(ALL.len() * ALL.len() * faults.len());
     for made_for in ALL {
         for fault in faults.iter().filter(|fault| fault.exists_in(*made_for)) {
             for _ in 0..rounds {
@@ -72,7 +72,7 @@ fn mixed_faults_are_judged_alike_under_every_profile() {
     let mut linter = Linter::of("certificates with mixed faults, under every profile");
     let mut random = Random::for_purpose("mixed faults under every profile");
     let faults = catalogue();
-    for _ in 0..cases(6_000) / 3 {
+    for _ in 0..cases(8_000) / ALL.len() {
         let case = mix(*random.choose(ALL), &faults, &mut random).encode();
         compare(&mut linter, "mixed faults", ALL, (&case.certificate, &case.issuer), &mut random);
     }
@@ -105,7 +105,7 @@ fn every_change_of_a_short_certificate_is_answered_alike() {
     let by_octet = every_change_of_an_octet(&octets);
     let by_element = every_change_of_an_element(&tree).into_iter().map(|tree| tree.octets());
     for (turn, changed) in by_octet.into_iter().chain(by_element).enumerate() {
-        let profile = ALL[turn % 3];
+        let profile = ALL[turn % ALL.len()];
         if turn % 4 == 3 {
             compare(&mut linter, "an issuer changed", &[profile], (&good.certificate, &changed), &mut random);
         } else {
@@ -126,7 +126,7 @@ fn changes_at_every_octet_of_plain_certificates_are_answered_alike() {
     for profile in ALL {
         let good = plain(*profile).encode();
         for position in 0..good.certificate.len() {
-            for _ in 0..cases(20_000).div_ceil(3 * good.certificate.len()).min(255) {
+            for _ in 0..cases(26_000).div_ceil(ALL.len() * good.certificate.len()).min(255) {
                 let mut changed = good.certificate.clone();
                 changed[position] = random.octet();
                 compare(&mut linter, "an octet changed", &[*profile], (&changed, &good.issuer), &mut random);
@@ -143,13 +143,14 @@ fn changes_at_every_octet_of_plain_certificates_are_answered_alike() {
 fn chance_validities_are_judged_alike() {
     let mut linter = Linter::of("certificates with chance validities");
     let mut random = Random::for_purpose("chance validities");
-    for _ in 0..cases(3_000) {
+    for _ in 0..cases(4_000) {
         let profile = *random.choose(ALL);
         let mut pair = plain(profile);
         let start = chance_moment(&mut random);
-        let end = match random.below(3) {
+        let end = match random.below(4) {
             0 => chance_moment(&mut random),
             1 => start.later(random.below(500) as i64 * DAY + random.between(0, 2) as i64 - 1),
+            2 => start.anniversary(10).later(random.between(0, 4) as i64 - 2).min(Moment::last()),
             _ => start.later(*random.choose(&[395, 45]) * DAY + random.between(0, 4) as i64 - 2),
         };
         pair.certificate.not_before = in_some_form(start, &mut random);
@@ -167,10 +168,12 @@ fn chance_moment(random: &mut Random) -> Moment {
         1 => *random.choose(&[1950, 1999, 2000, 2048, 2049, 2050, 2099, 2100]),
         _ => random.between(2020, 2052),
     };
-    let (month, day) = (random.between(1, 12) as i64, random.between(1, 28) as i64);
+    let (year, month) = (year as i64, random.between(1, 12) as i64);
+    let month = if random.once_in(4) { 2 } else { month };
+    let day = random.between(1, days_of_month(year, month) as usize) as i64;
     let (hour, minute, second) = (random.between(0, 23), random.between(0, 59), random.between(0, 59));
     let (hour, minute, second) = (hour as i64, minute as i64, second as i64);
-    Moment::at_time(Fields { year: year as i64, month, day, hour, minute, second })
+    Moment::at_time(Fields { year, month, day, hour, minute, second })
 }
 
 /// UTCTime where it can say the year, but not always.
@@ -196,7 +199,7 @@ fn chance_keys_are_judged_alike() {
         linter.compare("a key", call(profile, &case.certificate, &case.issuer, &mut random));
     }
     let met = linter.finish();
-    hold_met(&met, &["no finding", "findings", "rule 205", "rule 206", "rule 207"]);
+    hold_met(&met, &["no finding", "findings", "rule 205", "rule 206", "rule 207", "rule 208"]);
 }
 
 /// A good modulus, a multiple of a small prime or of any odd number, or any number of about the
@@ -292,7 +295,7 @@ fn outside_certificates_are_answered_alike() {
     let mut random = Random::for_purpose("outside pairs");
     let items = outside::certificates();
     let generated = plain(1).encode();
-    let others = cases(14_000).div_ceil(3 * items.len());
+    let others = cases(18_000).div_ceil(ALL.len() * items.len());
     for (position, item) in items.iter().enumerate() {
         let itself = (&item.octets[..], &item.octets[..]);
         compare(&mut linter, &item.name, ALL, itself, &mut random);
@@ -356,7 +359,7 @@ fn refusals_come_in_their_order_for_all_sides_profiles_and_rooms() {
     let issuers = sides(&pair.issuer);
     for certificate in sides(&pair.certificate) {
         for issuer in &issuers {
-            for profile in [0, 1, 2, 3, 4, 255] {
+            for profile in [0, 1, 2, 3, 4, 5, 255] {
                 for room in [0, 1, 6, 600] {
                     linter.compare("sides", Call::new(profile, &certificate, issuer, room));
                 }
@@ -433,7 +436,7 @@ fn rooms_of_every_length_around_the_report_are_kept_alike() {
     let mut random = Random::for_purpose("rooms for two linters");
     let faults = catalogue();
     for turn in 0..cases(7_000) / ROOMS {
-        let case = mix(ALL[turn % 3], &faults, &mut random).encode();
+        let case = mix(ALL[turn % ALL.len()], &faults, &mut random).encode();
         hold_rooms(&mut linter, "a report", &case);
         if turn % 4 == 0 {
             linter

@@ -9,6 +9,7 @@ use std::process;
 use comparison::amount::say;
 use comparison::correct::Case;
 use comparison::deck::Record;
+use comparison::profile::ALL;
 use comparison::program::Program;
 use comparison::random::Random;
 use comparison::records::{largest, linted, of_length, of_two_blocks, tiny, LONGEST_SIDE};
@@ -16,7 +17,7 @@ use comparison::records::{largest, linted, of_length, of_two_blocks, tiny, LONGE
 const USAGE: &str = "usage: deckpack [DECK] NUMBER PROFILE CERTIFICATE ISSUER\n";
 const REFUSED_1: &str = "refused 1: the certificate has no octets, or more than 8,192\n";
 const REFUSED_2: &str = "refused 2: the issuer's certificate has no octets, or more than 8,192\n";
-const REFUSED_3: &str = "refused 3: the profile is not 1, 2 or 3\n";
+const REFUSED_3: &str = "refused 3: the profile is not 1, 2, 3 or 4\n";
 const REFUSED_8: &str = "refused 8: the record number is 0\n";
 
 /// The program, and a folder of its own for the files that it is given.
@@ -97,7 +98,7 @@ fn numbers_are_decimal_digits() {
         Record { number, case: Case { profile, ..case.clone() } }.blocks().concat()
     };
     packer.hold_sides("007", "02", sides, &blocks(7, 2), "");
-    packer.hold_sides("4294967295", "3", sides, &blocks(u32::MAX, 3), "");
+    packer.hold_sides("4294967295", "4", sides, &blocks(u32::MAX, 4), "");
     packer.hold_sides(&format!("{:0>4000}", 412), "1", sides, &blocks(412, 1), "");
     for text in
         ["", " 1", "1 ", "-1", "+1", "0x1", "1.0", "1e3", "/", ":", "4294967296", "18446744073709551617"]
@@ -114,19 +115,19 @@ fn refusals_are_said_in_words() {
     let Some(mut packer) = Packer::of("refusals packed") else { return };
     let (good, long, longer) = ([0x30, 0], [0; LONGEST_SIDE + 1], [0; 100_000]);
     for bad in [&[][..], &long, &longer] {
-        for (number, profile, other) in [("1", "1", &good[..]), ("0", "4", &[])] {
+        for (number, profile, other) in [("1", "1", &good[..]), ("0", "5", &[])] {
             packer.hold_sides(number, profile, [bad, other], &[], REFUSED_1);
         }
-        packer.hold_sides("0", "4", [&good, bad], &[], REFUSED_2);
+        packer.hold_sides("0", "5", [&good, bad], &[], REFUSED_2);
     }
     // 256 and 257 must not be taken for 0 and 1.
-    for profile in ["0", "4", "254", "255", "256", "257", "258", "259", "4294967295"] {
+    for profile in ["0", "5", "254", "255", "256", "257", "258", "259", "260", "4294967295"] {
         for number in ["0", "1"] {
             packer.hold_sides(number, profile, [&good, &good], &[], REFUSED_3);
         }
     }
-    for profile in ["1", "2", "3"] {
-        packer.hold_sides("0", profile, [&good, &good], &[], REFUSED_8);
+    for profile in ALL.iter().map(u8::to_string) {
+        packer.hold_sides("0", &profile, [&good, &good], &[], REFUSED_8);
     }
     packer.finish("refusals of deckpack in words");
 }

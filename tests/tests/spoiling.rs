@@ -42,7 +42,7 @@ impl Pool {
     fn new(random: &mut Random) -> Pool {
         let faults = catalogue();
         let mut cases: Vec<Case> = (0..120).map(|_| linted(random)).collect();
-        cases.extend((0..60).map(|turn| mix(ALL[turn % 3], &faults, random).encode()));
+        cases.extend((0..60).map(|turn| mix(ALL[turn % ALL.len()], &faults, random).encode()));
         Pool { linted: cases, short: short_cases(random), largest: largest(random) }
     }
 
@@ -253,7 +253,7 @@ fn steps_as_alone(records: &[Record], alone: &[Outcome], room: usize) -> Vec<Out
 /// Certificates with several faults, and one with a fault or none.
 fn linted_cases(faults: &[Fault], random: &mut Random) -> Vec<Case> {
     let mut cases: Vec<Case> =
-        (0..random.between(1, 4)).map(|turn| mix(ALL[turn % 3], faults, random).encode()).collect();
+        (0..random.between(1, 4)).map(|turn| mix(ALL[turn % ALL.len()], faults, random).encode()).collect();
     cases.push(linted(random));
     cases
 }
@@ -270,8 +270,8 @@ fn each_record_gets_the_answer_that_the_proved_linter_gives_it_alone_in_the_same
     for turn in 0..cases(1_200) / CALLS_A_DECK {
         let mut cases = linted_cases(&faults, &mut random);
         cases.extend(short_cases(&mut random).into_iter().filter(|_| random.once_in(5)));
-        if turn < 3 {
-            cases.push(densest(ALL[turn]).encode());
+        if let Some(profile) = ALL.get(turn) {
+            cases.push(densest(*profile).encode());
         }
         random.shuffle(&mut cases);
         let records = numbered(cases);

@@ -5,6 +5,7 @@ use comparison::amount::cases;
 use comparison::correct::Case;
 use comparison::deck::{Record, BLOCK};
 use comparison::holding::AMPLE_ROOM;
+use comparison::profile::ALL;
 use comparison::queue::hold_met;
 use comparison::random::Random;
 use comparison::records::{largest, linted, of_length, of_two_blocks, tiny, LONGEST_SIDE};
@@ -79,7 +80,7 @@ fn chance_octets_are_written_as_they_are() {
             let length = random.between(1, longest);
             random.octets(length)
         });
-        let profile = random.between(1, 3) as u8;
+        let profile = *random.choose(ALL);
         let number = 1 + random.below(u32::MAX as usize) as u32;
         let case = Case { profile, certificate, issuer, ..tiny(&mut random) };
         let record = Record { number, case };
@@ -113,7 +114,7 @@ impl Reasons {
         let reasons = [
             (bad_certificate, 1, 1),
             (bad_issuer, 2, 2),
-            (![1, 2, 3].contains(&self.profile), 3, 0),
+            (!ALL.contains(&self.profile), 3, 0),
             (self.number == 0, 8, 0),
             (self.room < needed, 7, 0),
         ];
@@ -146,7 +147,7 @@ fn refusals_come_in_their_order_in_every_combination() {
     let side = |length: usize| vec![0xA5; length];
     for certificate in [0, 1, LONGEST_SIDE, LONGEST_SIDE + 1] {
         for issuer in [0, 1, LONGEST_SIDE, LONGEST_SIDE + 1] {
-            for profile in [0, 1, 3, 4, 255] {
+            for profile in [0, 1, 4, 5, 255] {
                 for number in [0, 1] {
                     for room in [0, 511, 512, 33 * BLOCK - 1, 33 * BLOCK] {
                         let (certificate, issuer) = (side(certificate), side(issuer));

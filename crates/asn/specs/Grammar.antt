@@ -1,5 +1,5 @@
 -- What an ASN.1 type is, and where an element departs from one. DER is matched by identifier octets, left to right.
-use mathlib.Core.Bool.{Bool, true, false, cond, _&&_, _||_}
+use mathlib.Core.Bool.{Bool, true, false, cond, not, _&&_, _||_}
 use mathlib.Core.List.{List, [], _∷_, map}
 use Prim.Native.Nat.{ℕ, _/_, _%_, _^_}
 use lib.Dec.{eqb, ltb}
@@ -16,7 +16,7 @@ use Rattle.der.specs.declared.header.Head.{Head}
 
 -- tests of contents that are no list of elements
 pub data Test : Type 0 where
-  free integer natural version yes-octet oid bits named-bits nothing utc generalized : Test
+  free integer natural positive version yes-octet oid bits named-bits nothing utc generalized : Test
 
 mutual
   -- a type: the alternatives of a CHOICE, each by its identifier octet (0 stands for any); most types have one
@@ -58,6 +58,10 @@ abbrev pub naturalOk : List ℕ → Bool
 naturalOk [] = false
 naturalOk (b ∷ bs) = integerOk (b ∷ bs) && ltb b 128
 
+-- INTEGER (0..MAX) DEFAULT 0, "defaults unwritten": written, it is not 0
+abbrev pub positiveOk : List ℕ → Bool
+positiveOk c = naturalOk c && not (oneOctet (λ b. eqb b 0) c)
+
 -- "named bit lists are empty or end in a set bit": the last bit that is used is 1
 abbrev pub namedOk : List ℕ → Bool
 namedOk [] = false
@@ -76,6 +80,7 @@ passes bits tag c = ltb tag applicationClass || bitsOk c
 passes nothing tag c = ltb tag applicationClass || nullOk c
 passes free tag c = true
 passes natural tag c = naturalOk c
+passes positive tag c = positiveOk c
 passes version tag c = versionOk c
 passes yes-octet tag c = trueOk c
 passes named-bits tag c = namedOk c

@@ -24,6 +24,9 @@ integer = alt integerTag (leaf Test.integer) none
 abbrev pub natural : Form
 natural = alt integerTag (leaf Test.natural) none
 
+abbrev pub positive : Form
+positive = alt integerTag (leaf Test.positive) none
+
 abbrev pub bitString : Form
 bitString = alt bitStringTag (leaf Test.bits) none
 
@@ -232,6 +235,24 @@ cRLDistributionPoints = sequenceOf distributionPoint
 unfoldable pub ocspNoCheck : Form
 ocspNoCheck = null
 
+unfoldable pub generalSubtree : Form
+generalSubtree =
+    sequence
+    (one generalName  -- base
+    (opt (implicit 0 positive)  -- minimum BaseDistance DEFAULT 0, where BaseDistance ::= INTEGER (0..MAX)
+    (opt (implicit 1 natural)  -- maximum BaseDistance
+    done)))
+
+unfoldable pub generalSubtrees : Form
+generalSubtrees = sequenceOf generalSubtree
+
+unfoldable pub nameConstraints : Form
+nameConstraints =
+    sequence
+    (opt (implicit 0 generalSubtrees)  -- permittedSubtrees
+    (opt (implicit 1 generalSubtrees)  -- excludedSubtrees
+    done))
+
 -- The types that the refusals and the rules ask for: Certificate at 0, and at s the value of the extension that rule 340 + s judges
 
 unfoldable pub judged : List Form
@@ -247,6 +268,7 @@ judged =
     ∷ authorityInfoAccess
     ∷ cRLDistributionPoints
     ∷ ocspNoCheck
+    ∷ nameConstraints
     ∷ []
 
 unfoldable pub valueOf : ℕ → Form

@@ -7,7 +7,7 @@ ghost use mathlib.Core.Bool.{_||_};
 ghost use lib.Dec.{eqb, ltb};
 ghost use Rattle.octets.specs.Octets.{octetAt, octetsFrom};
 ghost use Rattle.der.specs.Contents.{primitiveOk};
-ghost use Rattle.asn.specs.Grammar.{versionOk, trueOk, naturalOk, namedOk, isReal, passes};
+ghost use Rattle.asn.specs.Grammar.{versionOk, trueOk, naturalOk, positiveOk, namedOk, isReal, passes};
 ghost use Rattle.times.specs.Reads.{timeOf};
 ghost use Rattle.asn.specs.Workings.Table.{testAt};
 
@@ -29,6 +29,14 @@ fn natural_ok(s: &[u8], body: usize, n: usize) -> bool
 {
     let first = octets::octet(s, body);
     der::primitive_ok(s, 2, body, n) & (first < 128)
+}
+
+// A number whose default is 0: it is not written where it is 0.
+fn positive_ok(s: &[u8], body: usize, n: usize) -> bool
+    ensures { λ r. ⌜ r ≡ positiveOk (octetsFrom (now (s .entry)) body n) ⌝ }
+{
+    let first = octets::octet(s, body);
+    natural_ok(s, body, n) & !((n == 1) & (first == 0))
 }
 
 // Whether bit k of b, counted from the last, is set.
@@ -73,7 +81,7 @@ fn universal_ok(s: &[u8], number: u8, tag: u8, body: usize, n: usize) -> bool
 }
 
 // The tests' numbers are below this.
-pub const TESTS: usize = 12;
+pub const TESTS: usize = 13;
 
 // Whether the n octets from place `body` on, under this tag, pass the test with this number.
 pub fn passes_test(s: &[u8], test: usize, tag: u8, body: usize, n: usize) -> bool
@@ -90,6 +98,7 @@ pub fn passes_test(s: &[u8], test: usize, tag: u8, body: usize, n: usize) -> boo
         9 => universal_ok(s, 5, tag, body, n),
         10 => time_ok(s, 23, body, n),
         11 => time_ok(s, 24, body, n),
+        12 => positive_ok(s, body, n),
         _ => true,
     }
 }

@@ -1,4 +1,5 @@
--- The extensions of a certificate (RFC 5280, 4.1.2.9), and their slots in document 01's table, "Rules on extensions".
+-- The extensions of a certificate (RFC 5280, 4.1.2.9), and their slots in document 01's table, "Rules on extensions", with "slot 11, name constraints
+-- 2.5.29.30" (document 02, CR 1).
 use mathlib.Core.List.{List, [], _∷_}
 use mathlib.Core.Bool.{Bool, cond}
 use Prim.Native.Nat.{ℕ, _+_}
@@ -41,7 +42,7 @@ accessIdentifier = oid (1 ∷ 3 ∷ 6 ∷ 1 ∷ 5 ∷ 5 ∷ 7 ∷ 1 ∷ 1 ∷ []
 abbrev pub nocheck : List ℕ
 nocheck = oid (1 ∷ 3 ∷ 6 ∷ 1 ∷ 5 ∷ 5 ∷ 7 ∷ 48 ∷ 1 ∷ 5 ∷ [])
 
--- the identifiers of slots 1 to 10
+-- the identifiers of slots 1 to 11
 abbrev pub identifiers : List (List ℕ)
 identifiers =
     certificateExtension 35  -- authority key id
@@ -54,6 +55,7 @@ identifiers =
     ∷ accessIdentifier  -- authority information access
     ∷ certificateExtension 31  -- CRL points
     ∷ nocheck
+    ∷ certificateExtension 30  -- name constraints
     ∷ []
 
 -- the position of an identifier in a list, the first of which has position k; 0 if it is not there
@@ -64,7 +66,7 @@ positionFrom k (i ∷ is) identifier = cond (sameBy exactly identifier i) k (pos
 unfoldable pub slotFor : List ℕ → ℕ
 slotFor identifier = positionFrom 1 identifiers identifier
 
--- 1 to 10 as in the table, 0 for an identifier that is not in it
+-- 1 to 11 as in the table, 0 for an identifier that is not in it
 abbrev pub slotOf : List ℕ → Head → ℕ
 slotOf s h = slotFor (identifierOf s h)
 

@@ -15,10 +15,11 @@ pub enum Kind {
     Attribute(u8),
     // an attribute that the profile does not allow (112)
     Foreign,
-    // a C, O or ST that says another text (115, 117, 119)
+    // a C, O or ST that says another text (115, 117, 119), a CN that is no subordinate CA's (122)
     OtherCountry,
     OtherOrganization,
     OtherState,
+    OtherAuthority,
     // a SET with over one member (121)
     Crowded,
     // an extension with an identifier seen before (361), one that has no business here (362), a critical one that the
@@ -37,11 +38,12 @@ pub enum Kind {
     NotHost,
     Underscore,
     NoHostName,
-    // an entry with this method and a URI (415, 416), one that is not an HTTP URI (417)
+    // an entry with this method and a URI (415, 416), one that is not an HTTP URI (417, 423)
     UriBy(Method),
     NotHttpBy(Method),
-    // an HTTP URI (418), a point with reasons or cRLIssuer (419)
+    // an HTTP URI (418), another URI (424), a point with reasons or cRLIssuer (419)
     HttpUri,
+    OtherUri,
     Restricted,
 }
 
@@ -53,8 +55,9 @@ pub fn is_of_kind(kind: Kind, p: Profile, s: &[u8], h: Head) -> bool
         Kind::Attribute(arc) => subjects::arc_of(s, h) == arc,
         Kind::Foreign => !profiles::allows_attribute(p, subjects::arc_of(s, h)),
         Kind::OtherCountry => subjects::is_other_country(s, h),
-        Kind::OtherOrganization => subjects::is_other_organization(s, h),
+        Kind::OtherOrganization => subjects::is_other_organization(s, h, profiles::takes_utf8(p)),
         Kind::OtherState => subjects::is_other_state(s, h),
+        Kind::OtherAuthority => subjects::is_other_authority(s, h),
         Kind::Crowded => subjects::is_crowded(s, h),
         Kind::Repeated(repeats) => is_repeat(repeats, s, h),
         Kind::Unwanted(repeats) => is_unwanted_in(p, repeats, s, h),
@@ -70,6 +73,7 @@ pub fn is_of_kind(kind: Kind, p: Profile, s: &[u8], h: Head) -> bool
         Kind::UriBy(method) => locations::uri_by(s, h, method),
         Kind::NotHttpBy(method) => locations::not_http_by(s, h, method),
         Kind::HttpUri => locations::is_http(s, h),
+        Kind::OtherUri => locations::is_other_uri(s, h),
         Kind::Restricted => locations::restricted(s, h),
     }
 }

@@ -38,6 +38,6 @@ hasMethod s method h = isMethod s method (methodOf s h)
 abbrev pub uriBy : List ℕ → Method → Head → Bool
 uriBy s method h = hasMethod s method h && isUri (locationOf s h)
 
--- 417 "each caIssuers entry not an HTTP URI"
+-- 417 "each caIssuers entry not an HTTP URI", 423 "each OCSP entry not an HTTP URI" (document 02, CR 1)
 abbrev pub notHttpBy : List ℕ → Method → Head → Bool
 notHttpBy s method h = hasMethod s method h && not (isHttp s (locationOf s h))

@@ -36,7 +36,7 @@ pub fn uri_by(s: &[u8], h: Head, method: Method) -> bool
     is_method(s, first, method) & is_uri(der::after(s, first, h.end))
 }
 
-// Whether an entry has the method and a location that is no HTTP URI: rule 417 speaks of each that does.
+// Whether an entry has the method and a location that is no HTTP URI: rules 417 and 423 speak of each that does.
 pub fn not_http_by(s: &[u8], h: Head, method: Method) -> bool
     ensures { λ r. ⌜ r ≡ notHttpBy (now (s .entry)) method h ⌝ }
 {

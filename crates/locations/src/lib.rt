@@ -9,4 +9,5 @@ pub use access::uri_by;
 pub use points::full_name_of;
 pub use points::restricted;
 pub use uris::is_http;
+pub use uris::is_other_uri;
 pub use uris::is_uri;

@@ -1,7 +1,7 @@
 // URIs: names of the form [6].
 use der::Head;
 ghost use mathlib.Core.Path.{_≡_};
-ghost use Rattle.locations.specs.Uris.{isUri, isHttp};
+ghost use Rattle.locations.specs.Uris.{isUri, isHttp, isOtherUri};
 
 pub fn is_uri(h: Head) -> bool
     ensures { λ r. ⌜ r ≡ isUri h ⌝ }
@@ -17,4 +17,11 @@ pub fn is_http(s: &[u8], h: Head) -> bool
     let body = h.body;
     let n = octets::minus(h.end, body);
     is_uri(h) & ((7 < n) & octets::same_ignoring_case(s, body, b"http://", 0, 7))
+}
+
+// Whether a name is a URI and no HTTP URI: rule 424 speaks of each that is.
+pub fn is_other_uri(s: &[u8], h: Head) -> bool
+    ensures { λ r. ⌜ r ≡ isOtherUri (now (s .entry)) h ⌝ }
+{
+    is_uri(h) & !is_http(s, h)
 }

@@ -13,4 +13,5 @@ pub use exponent::odd;
 pub use sign::positive;
 pub use size::below;
 pub use size::has_bits;
+pub use size::long_modulus;
 pub use size::modulus_ok;

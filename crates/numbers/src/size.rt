@@ -3,7 +3,7 @@ use crate::leading::lead;
 ghost use mathlib.Core.Path.{_≡_};
 ghost use Prim.Native.Nat.{_<_, _^_};
 ghost use lib.Dec.{ltb};
-ghost use Rattle.numbers.specs.Numbers.{number, hasBits, modulusOk};
+ghost use Rattle.numbers.specs.Numbers.{number, hasBits, modulusOk, longModulus};
 
 // 2 to the power e, for e below 8.
 fn power(e: u16) -> u16
@@ -44,4 +44,11 @@ pub fn modulus_ok(s: &[u8], body: usize, end: usize) -> bool
     ensures { λ r. ⌜ r ≡ modulusOk (number (now (s .entry)) body end) ⌝ }
 {
     has_bits(s, body, end, 2048) | (has_bits(s, body, end, 3072) | has_bits(s, body, end, 4096))
+}
+
+// Rule 208.
+pub fn long_modulus(s: &[u8], body: usize, end: usize) -> bool
+    ensures { λ r. ⌜ r ≡ longModulus (number (now (s .entry)) body end) ⌝ }
+{
+    !below(s, body, end, 2047)
 }

@@ -15,9 +15,21 @@ S = 1 ∷ 2 ∷ []
 abbrev pub O : List ℕ
 O = 3 ∷ []
 
--- a rule without a letter holds in all
+-- a rule without a letter holds in both
+abbrev pub serverAndResponder : List ℕ
+serverAndResponder = 1 ∷ 2 ∷ O
+
+-- "source document 001 as profile 4" (document 02, CR 1)
+abbrev pub subordinate : List ℕ
+subordinate = 4 ∷ []
+
+-- what document 01 has for S, and CR 1 says to hold in profile 4
+abbrev pub serverAndSubordinate : List ℕ
+serverAndSubordinate = 1 ∷ 2 ∷ subordinate
+
+-- what document 01 has without a letter, and CR 1 says to hold
 abbrev pub everyProfile : List ℕ
-everyProfile = 1 ∷ 2 ∷ 3 ∷ []
+everyProfile = 1 ∷ 2 ∷ 3 ∷ subordinate
 
 -- a rule, and the profiles that judge it
 abbrev pub ruleTable : List (ℕ × List ℕ)
@@ -39,34 +51,37 @@ ruleTable =
     ∷ (113, everyProfile)
     ∷ (114, everyProfile)
     ∷ (115, everyProfile)
-    ∷ (116, 2 ∷ O)
-    ∷ (117, 2 ∷ O)
+    ∷ (116, 2 ∷ 3 ∷ subordinate)
+    ∷ (117, 2 ∷ 3 ∷ subordinate)
     ∷ (118, 2 ∷ [])
     ∷ (119, 2 ∷ [])
     ∷ (120, S)
     ∷ (121, O)
+    ∷ (122, subordinate)
     -- key
     ∷ (201, everyProfile)
-    ∷ (202, everyProfile)
+    ∷ (202, serverAndResponder)
     ∷ (203, S)
     ∷ (204, everyProfile)
-    ∷ (205, everyProfile)
-    ∷ (206, everyProfile)
+    ∷ (205, serverAndResponder)
+    ∷ (206, serverAndResponder)
     ∷ (207, O)
+    ∷ (208, subordinate)
     -- an extension that is missing (300 + slot)
     ∷ (301, everyProfile)
-    ∷ (302, S)
+    ∷ (302, serverAndSubordinate)
     ∷ (303, everyProfile)
     ∷ (304, everyProfile)
     ∷ (305, everyProfile)
     ∷ (306, everyProfile)
     ∷ (307, S)
     ∷ (308, everyProfile)
-    ∷ (309, [])
+    ∷ (309, subordinate)
     ∷ (310, O)
+    ∷ (311, subordinate)
     -- its criticality (320 + slot)
     ∷ (321, everyProfile)
-    ∷ (322, S)
+    ∷ (322, serverAndSubordinate)
     ∷ (323, everyProfile)
     ∷ (324, everyProfile)
     ∷ (325, everyProfile)
@@ -75,9 +90,10 @@ ruleTable =
     ∷ (328, everyProfile)
     ∷ (329, everyProfile)
     ∷ (330, O)
+    ∷ (331, subordinate)
     -- its value (340 + slot)
     ∷ (341, everyProfile)
-    ∷ (342, S)
+    ∷ (342, serverAndSubordinate)
     ∷ (343, everyProfile)
     ∷ (344, everyProfile)
     ∷ (345, everyProfile)
@@ -86,6 +102,7 @@ ruleTable =
     ∷ (348, everyProfile)
     ∷ (349, everyProfile)
     ∷ (350, O)
+    ∷ (351, subordinate)
     -- extensions by their identifiers
     ∷ (361, everyProfile)
     ∷ (362, O)
@@ -94,26 +111,30 @@ ruleTable =
     ∷ (401, everyProfile)
     ∷ (402, S)
     ∷ (403, everyProfile)
-    ∷ (404, everyProfile)
-    ∷ (405, everyProfile)
+    ∷ (404, serverAndResponder)
+    ∷ (405, serverAndResponder)
     ∷ (407, everyProfile)
-    ∷ (408, everyProfile)
+    ∷ (408, serverAndResponder)
     ∷ (409, everyProfile)
-    ∷ (410, S)
-    ∷ (411, everyProfile)
-    ∷ (412, everyProfile)
-    ∷ (413, S)
-    ∷ (414, everyProfile)
-    ∷ (415, S)
+    ∷ (410, serverAndSubordinate)
+    ∷ (411, serverAndResponder)
+    ∷ (412, serverAndResponder)
+    ∷ (413, serverAndSubordinate)
+    ∷ (414, serverAndResponder)
+    ∷ (415, serverAndSubordinate)
     ∷ (416, everyProfile)
-    ∷ (417, S)
+    ∷ (417, serverAndSubordinate)
     ∷ (418, everyProfile)
     ∷ (419, everyProfile)
+    ∷ (421, subordinate)
+    ∷ (422, subordinate)
+    ∷ (423, subordinate)
+    ∷ (424, subordinate)
     ∷ []
 
 -- every rule's number is below this
 abbrev pub ruleLimit : ℕ
-ruleLimit = 420
+ruleLimit = 425
 
 -- what the table says of a rule; of what is no rule it says no profile
 unfoldable pub rowOf : List (ℕ × List ℕ) → ℕ → List ℕ

@@ -1,7 +1,7 @@
 // Document 01's table of extensions ("Rules on extensions"), and what its words mean for the rules.
 use crate::fields::Profile;
 ghost use mathlib.Core.Path.{_≡_};
-ghost use Rattle.profiles.specs.Extensions.{serverColumn, responderColumn, markIn, markOf, isUnwanted, isOutOfPlace};
+ghost use Rattle.profiles.specs.Extensions.{serverColumn, responderColumn, subordinateColumn, markIn, markOf, isUnwanted, isOutOfPlace};
 ghost use Rattle.profiles.specs.Extensions.{critIf, criticalityOf, isMiscritical};
 
 // The table's words: M, opt, no, other. An extension that is in no row is unlisted.
@@ -56,6 +56,25 @@ fn responder_mark(slot: usize) -> Mark
     }
 }
 
+fn subordinate_mark(slot: usize) -> Mark
+    ensures { λ r. ⌜ r ≡ markIn subordinateColumn slot ⌝ }
+{
+    match slot {
+        1 => Mark::Mandatory,
+        2 => Mark::Mandatory,
+        3 => Mark::Mandatory,
+        4 => Mark::Mandatory,
+        5 => Mark::Mandatory,
+        6 => Mark::Mandatory,
+        7 => Mark::Optional,
+        8 => Mark::Mandatory,
+        9 => Mark::Mandatory,
+        10 => Mark::Other,
+        11 => Mark::Mandatory,
+        _ => Mark::Unlisted,
+    }
+}
+
 // What a profile's column says of the extension in this slot.
 pub fn mark_of(p: Profile, slot: usize) -> Mark
     ensures { λ r. ⌜ r ≡ markOf p slot ⌝ }
@@ -64,6 +83,7 @@ pub fn mark_of(p: Profile, slot: usize) -> Mark
         Profile::Domain => server_mark(slot),
         Profile::Organization => server_mark(slot),
         Profile::Responder => responder_mark(slot),
+        Profile::Subordinate => subordinate_mark(slot),
     }
 }
 
@@ -85,6 +105,7 @@ pub fn criticality_of(p: Profile, slot: usize) -> Criticality
         Profile::Domain => crit((slot == 2) | (slot == 4)),
         Profile::Organization => crit((slot == 2) | (slot == 4)),
         Profile::Responder => crit((slot == 4) | (slot == 5)),
+        Profile::Subordinate => crit((slot == 2) | ((slot == 4) | (slot == 11))),
     }
 }
 

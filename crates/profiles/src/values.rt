@@ -11,6 +11,7 @@ pub fn usage_with_rsa(p: Profile) -> u8
         Profile::Domain => 0x20,
         Profile::Organization => 0x20,
         Profile::Responder => 0,
+        Profile::Subordinate => 0,
     }
 }
 
@@ -21,6 +22,7 @@ pub fn usage_with_curve(p: Profile) -> u8
         Profile::Domain => 0x08,
         Profile::Organization => 0x08,
         Profile::Responder => 0,
+        Profile::Subordinate => 0,
     }
 }
 
@@ -32,6 +34,7 @@ pub fn wanted_purpose(p: Profile) -> u8
         Profile::Domain => 1,
         Profile::Organization => 1,
         Profile::Responder => 9,
+        Profile::Subordinate => 1,
     }
 }
 
@@ -43,10 +46,11 @@ pub fn allows_purpose(p: Profile, arc: u8) -> bool
         Profile::Domain => (arc == 1) | (arc == 2),
         Profile::Organization => (arc == 1) | (arc == 2),
         Profile::Responder => arc == 9,
+        Profile::Subordinate => true,
     }
 }
 
-// Rule 410: whether a policy of the CA/Browser Forum, by its last arc, is the one that must be there.
+// Rule 410: whether a policy of the CA/Browser Forum, by its last arc, is one of which one must be there.
 pub fn wants_forum(p: Profile, arc: u8) -> bool
     ensures { λ r. ⌜ r ≡ wantsForum p arc ⌝ }
 {
@@ -54,5 +58,6 @@ pub fn wants_forum(p: Profile, arc: u8) -> bool
         Profile::Domain => arc == 1,
         Profile::Organization => arc == 2,
         Profile::Responder => false,
+        Profile::Subordinate => (arc == 1) | (arc == 2),
     }
 }

@@ -1,4 +1,4 @@
--- One list of all rules, each with its number: 101 to 111, 112 to 121, 201 to 207, 301 to 363, 401 to 419.
+-- One list of all rules, each with its number: 101 to 111, 112 to 122, 201 to 208, 301 to 363, 401 to 424.
 use mathlib.Core.List.{List, _++_}
 use Prim.Native.Nat.{ℕ}
 use Rattle.profiles.specs.declared.fields.Profile.{Profile}

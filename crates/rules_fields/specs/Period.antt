@@ -1,10 +1,13 @@
--- Rules 109 to 111 (document 01, "Rules on fields").
-use mathlib.Core.Bool.{not}
+-- Rules 109 to 111 (document 01, "Rules on fields"; document 02, CR 1).
+use mathlib.Core.Bool.{Bool, not}
 use mathlib.Core.List.{List, [], _∷_, _++_}
 use Rattle.der.specs.declared.header.Head.{Head}
-use Rattle.times.specs.Validity.{earlyGeneral, reversedOf, withinDaysOf}
+use Rattle.times.specs.Validity.{earlyGeneral, reversedOf, withinDaysOf, withinYearsOf}
+use Rattle.times.specs.declared.validity.Validity.{Validity}
 use Rattle.profiles.specs.Judged.{everyProfile}
-use Rattle.profiles.specs.Fields.{maxDays}
+use Rattle.profiles.specs.Fields.{limitOf}
+use Rattle.profiles.specs.declared.fields.Limit.{Limit}
+use Rattle.profiles.specs.declared.fields.Limit.the-variants.{Days, Years}
 use Rattle.profiles.specs.declared.fields.Profile.{Profile}
 use Rattle.certificate.specs.declared.fields.Certificate.{Certificate}
 use Rattle.report.specs.Rows.{Row, _for_⦂_, brokenAt}
@@ -18,9 +21,14 @@ rule109 c =
 abbrev pub rule110 : Certificate → List Head
 rule110 c = brokenAt (reversedOf (c .validity)) (c .period)
 
--- 111 "notAfter minus notBefore at most 395 days (S), 45 days (O), of 86,400 seconds"
+-- so many days, or so many years by the calendar
+abbrev pub withinLimit : Validity → Limit → Bool
+withinLimit v (Days days) = withinDaysOf v days
+withinLimit v (Years years) = withinYearsOf v years
+
+-- 111 "notAfter minus notBefore at most 395 days (S), 45 days (O), of 86,400 seconds"; "111 allows ten years" (CR 1)
 abbrev pub rule111 : Profile → Certificate → List Head
-rule111 p c = brokenAt (not (withinDaysOf (c .validity) (maxDays p))) (c .period)
+rule111 p c = brokenAt (not (withinLimit (c .validity) (limitOf p))) (c .period)
 
 unfoldable pub validityRows : Profile → Certificate → List Row
 validityRows p c = 109 for everyProfile ⦂ rule109 c ∷ 110 for everyProfile ⦂ rule110 c ∷ 111 for everyProfile ⦂ rule111 p c ∷ []

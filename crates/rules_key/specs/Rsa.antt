@@ -1,4 +1,4 @@
--- Rules 204 to 207 (document 01, "Rules on fields"): 204 "at the BIT STRING", "205 to 207 at the INTEGER".
+-- Rules 204 to 207 (document 01, "Rules on fields"), and 208 (document 02, CR 1): 204 "at the BIT STRING", "205 to 207 at the INTEGER".
 use mathlib.Core.Bool.{Bool, not, _&&_}
 use mathlib.Core.List.{List, [], _∷_}
 use Prim.Native.Nat.{ℕ}
@@ -6,11 +6,11 @@ use Rattle.rules_key.specs.Bits.{modulusOf, exponentOf, rsaBits}
 use Rattle.octets.specs.Numbers.{numberOf}
 use Rattle.der.specs.Contents.{contentsOf}
 use Rattle.der.specs.declared.header.Head.{Head}
-use Rattle.numbers.specs.Numbers.{modulusOk, exponentOk}
+use Rattle.numbers.specs.Numbers.{modulusOk, longModulus, exponentOk}
 use Rattle.primes.specs.Primes.{primesBelow, freeOf}
 use Rattle.certificate.specs.declared.key.Key.{Key}
 use Rattle.facts.specs.Kinds.{isRsa}
-use Rattle.profiles.specs.Judged.{O, everyProfile}
+use Rattle.profiles.specs.Judged.{O, serverAndResponder, subordinate, everyProfile}
 use Rattle.report.specs.Rows.{Row, _for_⦂_, brokenAt}
 
 -- 204 "RSA bits are, with 0 unused, exactly a sound SEQUENCE of two positive INTEGERs"
@@ -47,10 +47,15 @@ rule206 s k = exponentBy exponentOk s k
 abbrev pub rule207 : List ℕ → Key → List Head
 rule207 s k = modulusBy (freeOf (primesBelow 752)) s k
 
+-- 208 "modulus at least 2048 bits, else as 205"
+abbrev pub rule208 : List ℕ → Key → List Head
+rule208 s k = modulusBy longModulus s k
+
 unfoldable pub rsaRows : List ℕ → Key → List Row
 rsaRows s k =
     204 for everyProfile ⦂ rule204 s k
-    ∷ 205 for everyProfile ⦂ rule205 s k
-    ∷ 206 for everyProfile ⦂ rule206 s k
+    ∷ 205 for serverAndResponder ⦂ rule205 s k
+    ∷ 206 for serverAndResponder ⦂ rule206 s k
     ∷ 207 for O ⦂ rule207 s k
+    ∷ 208 for subordinate ⦂ rule208 s k
     ∷ []

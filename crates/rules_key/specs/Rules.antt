@@ -1,4 +1,4 @@
--- Rules 201 to 207 together.
+-- Rules 201 to 208 together.
 use mathlib.Core.List.{List, _++_}
 use Rattle.rules_key.specs.Algorithm.{algorithmRows}
 use Rattle.rules_key.specs.Rsa.{rsaRows}

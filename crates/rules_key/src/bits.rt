@@ -5,7 +5,7 @@ ghost use Prim.Native.Nat.{_+_, min};
 ghost use Rattle.rules_key.specs.Bits.{bitsFrom, isPositiveInteger};
 ghost use Rattle.rules_key.specs.Workings.Bits.{rsaKeyOf};
 
-// Whether rule 204 is kept, and the two INTEGERs that rules 205 to 207 judge then.
+// Whether rule 204 is kept, and the two INTEGERs that rules 205 to 208 judge then.
 pub struct RsaKey {
     pub kept: bool,
     pub modulus: Head,

@@ -1,4 +1,4 @@
-// Rules 201 to 207: the key (document 01, "Rules on fields").
+// Rules 201 to 208: the key (document 01, "Rules on fields"; document 02, CR 1).
 mod algorithm;
 mod bits;
 mod parameters;

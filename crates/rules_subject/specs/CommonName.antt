@@ -1,4 +1,4 @@
--- Rules 120 and 121 (document 01, "Rules on fields").
+-- Rules 120 and 121 (document 01, "Rules on fields"), and 122 (document 02, CR 1).
 use mathlib.Core.Bool.{Bool, not, _&&_}
 use mathlib.Core.List.{List, [], _∷_}
 use Prim.Native.Nat.{ℕ}
@@ -6,8 +6,9 @@ use Rattle.der.specs.Contents.{contentsOf}
 use Rattle.der.specs.Elements.{firstOf, isEmpty}
 use Rattle.der.specs.Members.{membersIn}
 use Rattle.der.specs.declared.header.Head.{Head}
-use Rattle.profiles.specs.Judged.{S, O}
+use Rattle.profiles.specs.Judged.{S, O, subordinate}
 use Rattle.profiles.specs.Fields.{commonName}
+use Rattle.subjects.specs.Authorities.{isOtherAuthority}
 use Rattle.subjects.specs.Sets.{isCrowded}
 use Rattle.subjects.specs.Types.{attributeValue}
 use Rattle.hosts.specs.Names.{someNamed}
@@ -35,5 +36,9 @@ rule120 s name e = whereGood e (λ x v. brokenAt (isUnnamed s (firstCommonName s
 abbrev pub rule121 : List ℕ → Head → List Head
 rule121 s name = filter (isCrowded s) (membersIn s name)
 
+-- 122 "each CN is a PrintableString "US Federal TLS CA x" or "US Federal Test TLS CA x", x a decimal number from 1 without leading zeros"
+abbrev pub rule122 : List ℕ → Head → List Head
+rule122 s name = filter (isOtherAuthority s) (attributesIn s name)
+
 unfoldable pub nameRows : List ℕ → Head → Standing → List Row
-nameRows s name e = 120 for S ⦂ rule120 s name e ∷ 121 for O ⦂ rule121 s name ∷ []
+nameRows s name e = 120 for S ⦂ rule120 s name e ∷ 121 for O ⦂ rule121 s name ∷ 122 for subordinate ⦂ rule122 s name ∷ []

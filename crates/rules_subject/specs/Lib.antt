@@ -1,4 +1,4 @@
--- Rules 112 to 121, one definition a rule.
+-- Rules 112 to 122, one definition a rule.
 pub mod Attributes
 pub mod CommonName
 pub mod Rules

@@ -20,7 +20,7 @@ pub fn name_and_country(room: &mut [u8], n: usize, p: Profile, s: &[u8], name: H
 
 // Rules 116 to 119. O is 10, ST is 8.
 pub fn organization_and_state(room: &mut [u8], n: usize, p: Profile, s: &[u8], name: Head) -> usize
-    ensures { λ r. ⌜ Puts p (organizationRows (now (s .entry)) name) n (now (room .entry)) r (now (room .exit)) ⌝ }
+    ensures { λ r. ⌜ Puts p (organizationRows p (now (s .entry)) name) n (now (room .entry)) r (now (room .exit)) ⌝ }
 {
     let from = name.body;
     let to = name.end;

@@ -1,4 +1,4 @@
-// Rules 120 and 121: the first CN among the subject's alternative names, and sets of one attribute.
+// Rules 120 to 122: the first CN among the subject's alternative names, sets of one attribute, and CNs of subordinate CAs.
 use certificate::Slot;
 use der::Head;
 use forms::Kind;
@@ -32,5 +32,16 @@ pub fn name_and_sets(room: &mut [u8], n: usize, p: Profile, s: &[u8], name: Head
     let judged = profiles::holds(p, 120) & v.good;
     let unnamed = is_unnamed(judged, s, cn, v.element);
     let a = report::judge(room, n, p, 120, unnamed, cn);
-    forms::judge_each(room, a, p, 121, Kind::Crowded, s, from, to)
+    let b = forms::judge_each(room, a, p, 121, Kind::Crowded, s, from, to);
+    forms::judge_within(
+        room,
+        b,
+        p,
+        122,
+        Nest::Set,
+        Kind::OtherAuthority,
+        s,
+        from,
+        to,
+    )
 }

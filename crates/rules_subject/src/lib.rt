@@ -1,4 +1,4 @@
-// Rules 112 to 121: the subject's name (document 01, "Rules on fields").
+// Rules 112 to 122: the subject's name (document 01, "Rules on fields"; document 02, CR 1).
 mod attributes;
 mod common_name;
 

@@ -1,5 +1,6 @@
 -- Laws of the definitions, by file.
 pub mod Identifiers
 pub mod Qualifiers
+pub mod FullNames
 pub mod Rows
 pub mod Usage

@@ -1,4 +1,4 @@
--- Rules 412 to 414 (document 01, "Rules on extensions"). Slot 7 is the subject alternative name.
+-- Rules 412 to 414 (document 01, "Rules on extensions"; document 02, CR 1). Slot 7 is the subject alternative name.
 use mathlib.Core.List.{List, [], _∷_}
 use Prim.Native.Nat.{ℕ}
 use Rattle.der.specs.declared.header.Head.{Head}
@@ -8,7 +8,7 @@ use Rattle.der.specs.Members.{membersIn}
 use Rattle.hosts.specs.Hosts.{hasUnderscore, noHost}
 use Rattle.forms.specs.Kinds.{isNoDnsName}
 use Rattle.report.specs.Forms.{filter}
-use Rattle.profiles.specs.Judged.{S, everyProfile}
+use Rattle.profiles.specs.Judged.{serverAndResponder, serverAndSubordinate}
 use Rattle.report.specs.Rows.{Row, _for_⦂_}
 
 -- 412 "each name not a dNSName"
@@ -25,4 +25,8 @@ abbrev pub rule414 : List ℕ → Standing → List Head
 rule414 s e = whereGood e (λ x v. filter (noHost s) (membersIn s v))
 
 unfoldable pub hostRows : List ℕ → Standing → List Row
-hostRows s e = 412 for everyProfile ⦂ rule412 s e ∷ 413 for S ⦂ rule413 s e ∷ 414 for everyProfile ⦂ rule414 s e ∷ []
+hostRows s e =
+    412 for serverAndResponder ⦂ rule412 s e
+    ∷ 413 for serverAndSubordinate ⦂ rule413 s e
+    ∷ 414 for serverAndResponder ⦂ rule414 s e
+    ∷ []

@@ -1,4 +1,4 @@
--- Rules 401 to 403 (document 01, "Rules on extensions"). "Place: the OCTET STRING", which is the Extension's value.
+-- Rules 401 to 403 (document 01, "Rules on extensions"; document 02, CR 1). "Place: the OCTET STRING", which is the Extension's value.
 use mathlib.Core.Bool.{Bool, false, cond, not}
 use mathlib.Core.List.{List, [], _∷_}
 use Prim.Native.Nat.{ℕ, _-_}

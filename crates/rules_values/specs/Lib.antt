@@ -1,4 +1,4 @@
--- Rules 401 to 419, one definition a rule.
+-- Rules 401 to 424, one definition a rule.
 pub mod Identifiers
 pub mod Usage
 pub mod Purposes
@@ -6,4 +6,5 @@ pub mod Policies
 pub mod Hosts
 pub mod Access
 pub mod Points
+pub mod Authority
 pub mod Rules

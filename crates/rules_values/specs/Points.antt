@@ -1,4 +1,4 @@
--- Rules 418 and 419 (document 01, "Rules on extensions"). Slot 9 is CRL distribution points.
+-- Rules 418 and 419 (document 01, "Rules on extensions"; document 02, CR 1). Slot 9 is CRL distribution points.
 use mathlib.Core.Bool.{not}
 use mathlib.Core.List.{List, [], _∷_}
 use Prim.Native.Nat.{ℕ}

@@ -1,4 +1,4 @@
--- Rules 409 to 411 (document 01, "Rules on extensions"). Slot 6 is certificate policies.
+-- Rules 409 to 411 (document 01, "Rules on extensions"; document 02, CR 1). Slot 6 is certificate policies.
 use mathlib.Core.Bool.{not}
 use mathlib.Core.List.{List, [], _∷_}
 use Prim.Native.Nat.{ℕ}
@@ -7,7 +7,7 @@ use Rattle.certificate.specs.Standing.{Standing}
 use Rattle.forms.specs.Values.{whereGood}
 use Rattle.der.specs.Elements.{anyOf}
 use Rattle.der.specs.Members.{membersIn}
-use Rattle.profiles.specs.Judged.{S, everyProfile}
+use Rattle.profiles.specs.Judged.{serverAndResponder, serverAndSubordinate, everyProfile}
 use Rattle.profiles.specs.declared.fields.Profile.{Profile}
 use Rattle.policies.specs.Policies.{policyBelow, otherQualifier}
 use Rattle.forms.specs.Kinds.{isForumPolicy}
@@ -20,7 +20,7 @@ use Rattle.report.specs.Rows.{Row, _for_⦂_, brokenAt}
 abbrev pub rule409 : List ℕ → Standing → List Head
 rule409 s e = whereGood e (λ x v. brokenAt (not (anyOf (policyBelow s) (membersIn s v))) (x .value))
 
--- 410 "2.23.140.1.2.1 (1) or 2.23.140.1.2.2 (2), from the CA/Browser Forum"
+-- 410 "2.23.140.1.2.1 (1) or 2.23.140.1.2.2 (2), from the CA/Browser Forum"; "410 (either forum policy)" (CR 1)
 abbrev pub rule410 : Profile → List ℕ → Standing → List Head
 rule410 p s e = whereGood e (λ x v. brokenAt (not (anyOf (isForumPolicy p s) (membersIn s v))) (x .value))
 
@@ -29,4 +29,8 @@ abbrev pub rule411 : List ℕ → Standing → List Head
 rule411 s e = whereGood e (λ x v. filter (otherQualifier s) (itemsWithin Policy s (v .body) (v .end)))
 
 unfoldable pub policyRows : Profile → List ℕ → Standing → List Row
-policyRows p s e = 409 for everyProfile ⦂ rule409 s e ∷ 410 for S ⦂ rule410 p s e ∷ 411 for everyProfile ⦂ rule411 s e ∷ []
+policyRows p s e =
+    409 for everyProfile ⦂ rule409 s e
+    ∷ 410 for serverAndSubordinate ⦂ rule410 p s e
+    ∷ 411 for serverAndResponder ⦂ rule411 s e
+    ∷ []

@@ -1,4 +1,4 @@
--- Rules 401 to 419 together, with the extensions by their slots in document 01's table: 1 authority key id, 2 basic constraints, 3 subject key id, 4 key usage,
+-- Rules 401 to 424 together, with the extensions by their slots in document 01's table: 1 authority key id, 2 basic constraints, 3 subject key id, 4 key usage,
 -- 5 extended key usage, 6 policies, 7 alternative name, 8 AIA, 9 CRL points.
 use mathlib.Core.List.{List, _++_}
 use Rattle.rules_values.specs.Identifiers.{keyIdentifierRows}
@@ -8,6 +8,7 @@ use Rattle.rules_values.specs.Policies.{policyRows}
 use Rattle.rules_values.specs.Hosts.{hostRows}
 use Rattle.rules_values.specs.Access.{accessRows}
 use Rattle.rules_values.specs.Points.{pointRows}
+use Rattle.rules_values.specs.Authority.{authorityRows}
 use Rattle.profiles.specs.declared.fields.Profile.{Profile}
 use Rattle.facts.specs.Case.{Case, standingOf}
 use Rattle.report.specs.Rows.{Row}
@@ -18,4 +19,7 @@ valueRows p f =
     ++ (usageRows p (f .octets) (f .key .kind) (standingOf f 4)
     ++ (purposeRows p (f .octets) (standingOf f 5)
     ++ (policyRows p (f .octets) (standingOf f 6)
-    ++ (hostRows (f .octets) (standingOf f 7) ++ (accessRows (f .octets) (standingOf f 8) ++ pointRows (f .octets) (standingOf f 9))))))
+    ++ (hostRows (f .octets) (standingOf f 7)
+    ++ (accessRows (f .octets) (standingOf f 8)
+    ++ (pointRows (f .octets) (standingOf f 9)
+    ++ authorityRows (f .octets) (standingOf f 2) (standingOf f 4) (standingOf f 8) (standingOf f 9)))))))

@@ -1,11 +1,11 @@
--- Rules 404 and 405 (document 01, "Rules on extensions"). Slot 4 is key usage.
+-- Rules 404 and 405 (document 01, "Rules on extensions"; document 02, CR 1). Slot 4 is key usage.
 use mathlib.Core.Bool.{not}
 use mathlib.Core.List.{List, [], _∷_}
 use Prim.Native.Nat.{ℕ}
 use Rattle.der.specs.declared.header.Head.{Head}
 use Rattle.certificate.specs.Standing.{Standing}
 use Rattle.forms.specs.Values.{whereGood}
-use Rattle.profiles.specs.Judged.{everyProfile}
+use Rattle.profiles.specs.Judged.{serverAndResponder}
 use Rattle.profiles.specs.Values.{digitalSignature, usageWithRsa, usageWithCurve}
 use Rattle.profiles.specs.declared.fields.Profile.{Profile}
 use Rattle.certificate.specs.declared.key.KeyKind.{KeyKind}
@@ -28,4 +28,4 @@ abbrev pub rule405 : Profile → List ℕ → KeyKind → Standing → List Head
 rule405 p s kind e = whereGood e (λ x v. brokenAt (otherBits (usageOf s v) (allowedUsage p kind)) (x .value))
 
 unfoldable pub usageRows : Profile → List ℕ → KeyKind → Standing → List Row
-usageRows p s kind e = 404 for everyProfile ⦂ rule404 s e ∷ 405 for everyProfile ⦂ rule405 p s kind e ∷ []
+usageRows p s kind e = 404 for serverAndResponder ⦂ rule404 s e ∷ 405 for serverAndResponder ⦂ rule405 p s kind e ∷ []

@@ -1,6 +1,7 @@
-// Rules 401 to 419: what the extensions' values say (document 01, "Rules on extensions"). They are not judged if the
-// extension is missing or fails 340+s.
+// Rules 401 to 424: what the extensions' values say (document 01, "Rules on extensions"; document 02, CR 1). They are not
+// judged if the extension is missing or fails 340+s.
 mod access;
+mod authority;
 mod identifiers;
 mod names;
 mod points;
@@ -45,5 +46,6 @@ pub fn value_rules(
     let fourth = policy::policy_rules(room, third, p, s, slots[6]);
     let fifth = names::host_rules(room, fourth, p, s, slots[7]);
     let sixth = access::access_rules(room, fifth, p, s, slots[8]);
-    points::point_rules(room, sixth, p, s, slots[9])
+    let seventh = points::point_rules(room, sixth, p, s, slots[9]);
+    authority::authority_rules(room, seventh, p, s, slots[2], slots[4], slots[8], slots[9])
 }

@@ -1,2 +1,3 @@
--- Laws of the definitions.
+-- Laws of the definitions, and worked examples.
 pub mod Laws
+pub mod Examples

@@ -1,4 +1,4 @@
--- Rules 115, 117 and 119 of one attribute (document 01, "Rules on fields").
+-- Rules 115, 117 and 119 of one attribute (document 01, "Rules on fields"; document 02, CR 1).
 use mathlib.Core.Bool.{Bool, true, false, not, _&&_, _||_}
 use mathlib.Core.List.{List}
 use Prim.Native.Nat.{ℕ}
@@ -32,9 +32,10 @@ districtOfColumbia = word "District of Columbia"
 abbrev pub isOtherCountry : List ℕ → Head → Bool
 isOtherCountry s h = isOther s h country false unitedStates
 
--- 117 "each O is "U.S. Government""; "117 and 119 take PrintableString or UTF8String"
-abbrev pub isOtherOrganization : List ℕ → Head → Bool
-isOtherOrganization s h = isOther s h organization true government
+-- 117 "each O is "U.S. Government""; "117 and 119 take PrintableString or UTF8String" (document 01), profile 4 "O in PrintableString only" (document
+-- 02, CR 1): utf8 says whether a UTF8String is allowed
+abbrev pub isOtherOrganization : Bool → List ℕ → Head → Bool
+isOtherOrganization utf8 s h = isOther s h organization utf8 government
 
 -- 119 "each ST is "District of Columbia""
 abbrev pub isOtherState : List ℕ → Head → Bool

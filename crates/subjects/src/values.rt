@@ -35,11 +35,11 @@ pub fn is_other_country(s: &[u8], h: Head) -> bool
     is_other(s, h, 6, false, b"US")
 }
 
-// Rule 117.
-pub fn is_other_organization(s: &[u8], h: Head) -> bool
-    ensures { λ r. ⌜ r ≡ isOtherOrganization (now (s .entry)) h ⌝ }
+// Rule 117. Not every profile takes a UTF8String.
+pub fn is_other_organization(s: &[u8], h: Head, utf8: bool) -> bool
+    ensures { λ r. ⌜ r ≡ isOtherOrganization utf8 (now (s .entry)) h ⌝ }
 {
-    is_other(s, h, 10, true, b"U.S. Government")
+    is_other(s, h, 10, utf8, b"U.S. Government")
 }
 
 // Rule 119.

@@ -2,4 +2,5 @@
 pub mod Putting
 pub mod Decimal
 pub mod Digits
+pub mod Leading
 pub mod Numerals

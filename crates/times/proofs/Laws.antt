@@ -1,3 +1,4 @@
 -- Laws of the definitions, by file.
 pub mod Calendar
+pub mod Anniversary
 pub mod Reads

@@ -7,6 +7,7 @@ use Rattle.times.specs.declared.validity.Time.{Time}
 use Rattle.times.specs.declared.validity.Time.the-variants.{Utc, General}
 use Rattle.times.specs.declared.validity.Validity.{Validity}
 use Rattle.times.specs.Calendar.{secondsOf}
+use Rattle.times.specs.Anniversary.{anniversaryOf}
 
 abbrev pub dateOf : Time → Date
 dateOf (Utc d) = d
@@ -28,3 +29,7 @@ reversedOf v = ltb (momentOf (v .«not_after»)) (momentOf (v .«not_before»))
 -- 111 "notAfter minus notBefore at most .. days .., of 86,400 seconds"; the difference is 0 if the times stand the wrong way round
 abbrev pub withinDaysOf : Validity → ℕ → Bool
 withinDaysOf v limit = leb (momentOf (v .«not_after») - momentOf (v .«not_before»)) (86400 * limit)
+
+-- 111 for a limit in years: notAfter at most the anniversary of notBefore
+abbrev pub withinYearsOf : Validity → ℕ → Bool
+withinYearsOf v years = leb (momentOf (v .«not_after»)) (secondsOf (anniversaryOf years (dateOf (v .«not_before»))))

@@ -1,4 +1,5 @@
 // The times of a certificate: read from their octets, and compared by the calendar.
+mod anniversary;
 mod calendar;
 mod reading;
 mod validity;
@@ -14,3 +15,4 @@ pub use validity::date_of;
 pub use validity::early_general;
 pub use validity::reversed;
 pub use validity::within_days;
+pub use validity::within_years;

@@ -1,9 +1,10 @@
 // The times of a validity, each kept with the form that it had, and what rules 109 to 111 ask of them.
+use crate::anniversary::anniversary;
 use crate::calendar::Date;
 use crate::calendar::seconds;
 ghost use mathlib.Core.Path.{_≡_};
 ghost use Prim.Native.Nat.{_<_, _^_};
-ghost use Rattle.times.specs.Validity.{dateOf, momentOf, earlyGeneral, reversedOf, withinDaysOf};
+ghost use Rattle.times.specs.Validity.{dateOf, momentOf, earlyGeneral, reversedOf, withinDaysOf, withinYearsOf};
 
 pub enum Time {
     Utc(Date),
@@ -57,4 +58,13 @@ pub fn within_days(v: Validity, limit: u16) -> bool
     let before = v.not_before;
     let after = v.not_after;
     octets::minus(moment(after), moment(before)) <= 86400 * limit as usize
+}
+
+// Whether rule 111 is kept, for a limit of so many years. Here too times the wrong way round keep it.
+pub fn within_years(v: Validity, years: u16) -> bool
+    ensures { λ r. ⌜ r ≡ withinYearsOf v years ⌝ }
+{
+    let before = v.not_before;
+    let after = v.not_after;
+    moment(after) <= anniversary(date_of(before), years)
 }

@@ -1,4 +1,4 @@
--- Key usage, which rules 404 and 405 ask for: a named BIT STRING. The first contents octet says how many bits are unused (they are 0, X.690, 11.2.1); the bits
+-- Key usage, which rules 404, 405 and 422 ask for: a named BIT STRING. The first contents octet says how many bits are unused (they are 0, X.690, 11.2.1); the bits
 -- follow, bit 0 the high bit of the first octet (8.6.2.1).
 use mathlib.Core.List.{List, [], _∷_}
 use mathlib.Core.Bool.{Bool, false, cond, not, _&&_, _||_}
@@ -9,7 +9,7 @@ use Rattle.octets.specs.Octets.{octetAt}
 use Rattle.der.specs.Contents.{contentsOf}
 use Rattle.der.specs.declared.header.Head.{Head}
 use Rattle.octets.specs.Octets.{isOneOf}
-use Rattle.profiles.specs.Values.{digitalSignature}
+use Rattle.profiles.specs.Values.{digitalSignature, keyCertSign, cRLSign}
 
 -- the octets of bits in the contents of a BIT STRING
 abbrev pub bitOctets : List ℕ → List ℕ
@@ -27,6 +27,10 @@ anyBelow test (suc n) = test n || anyBelow test n
 
 abbrev pub usageOf : List ℕ → Head → List ℕ
 usageOf s v = bitOctets (contentsOf s v)
+
+-- 422 "keyCertSign and cRLSign set" (document 02, CR 1): the key signs certificates and lists of revoked ones
+abbrev pub signsForAuthority : List ℕ → Bool
+signsForAuthority bits = bitAt bits keyCertSign && bitAt bits cRLSign
 
 -- 404 "digitalSignature set" asks for this bit; 405 allows it, and besides it those of some names
 abbrev pub mayBeSet : List ℕ → ℕ → Bool

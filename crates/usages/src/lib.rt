@@ -5,3 +5,4 @@ mod usage;
 pub use purposes::purpose_arc;
 pub use usage::other_usage;
 pub use usage::signs;
+pub use usage::signs_for_authority;

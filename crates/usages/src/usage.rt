@@ -6,7 +6,7 @@ ghost use mathlib.Core.List.{[], _∷_};
 ghost use Prim.Native.Nat.{_+_, _-_};
 ghost use Rattle.octets.specs.Octets.{octetsFrom};
 ghost use Rattle.profiles.specs.Values.{digitalSignature};
-ghost use Rattle.usages.specs.Usage.{bitOctets, bitAt, anyBelow, usageOf, otherBit, otherBits, bitsIn};
+ghost use Rattle.usages.specs.Usage.{bitOctets, bitAt, anyBelow, usageOf, signsForAuthority, otherBit, otherBits, bitsIn};
 ghost use Rattle.usages.specs.Workings.Usage.{anySet, oddAlone};
 
 // Rule 404: whether digitalSignature is set.
@@ -17,6 +17,16 @@ pub fn signs(s: &[u8], v: Head) -> bool
     let n = octets::minus(v.end, body);
     let bits = octets::octet_past(s, body, 1);
     (1 < n) & (bits / 128 % 2 == 1)
+}
+
+// Rule 422: whether keyCertSign and cRLSign are set.
+pub fn signs_for_authority(s: &[u8], v: Head) -> bool
+    ensures { λ r. ⌜ r ≡ signsForAuthority (usageOf (now (s .entry)) v) ⌝ }
+{
+    let body = v.body;
+    let n = octets::minus(v.end, body);
+    let bits = octets::octet_past(s, body, 1);
+    ((1 < n) & (bits / 4 % 2 == 1)) & ((1 < n) & (bits / 2 % 2 == 1))
 }
 
 // Whether the last bit of a is set, and that of b is not.

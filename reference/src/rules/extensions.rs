@@ -9,15 +9,15 @@ use crate::report::Report;
 use crate::structure::Misfit;
 use crate::values::{
     read_value, AuthorityInformationAccess, AuthorityKeyIdentifier, BasicConstraints,
-    CertificatePolicies, DistributionPoints, ExtendedKeyUsage, GeneralNames, KeyUsage, NoCheck,
-    SubjectKeyIdentifier, Value,
+    CertificatePolicies, DistributionPoints, ExtendedKeyUsage, GeneralNames, KeyUsage,
+    NameConstraints, NoCheck, SubjectKeyIdentifier, Value,
 };
 use std::collections::BTreeSet;
 
 /// The values that the rules on values judge: None where the extension is missing or fails 340+s.
 pub struct Values<'a> {
     pub authority_key_identifier: Option<Value<'a, AuthorityKeyIdentifier<'a>>>,
-    pub basic_constraints: Option<Value<'a, BasicConstraints>>,
+    pub basic_constraints: Option<Value<'a, BasicConstraints<'a>>>,
     pub subject_key_identifier: Option<Value<'a, SubjectKeyIdentifier<'a>>>,
     pub key_usage: Option<Value<'a, KeyUsage<'a>>>,
     pub extended_key_usage: Option<Value<'a, ExtendedKeyUsage<'a>>>,
@@ -41,11 +41,11 @@ pub fn judge<'a>(case: Case<'_, 'a>, report: &mut Report) -> Values<'a> {
     }
     for (s, standing) in standings(case.profile) {
         match extensions.in_row(s) {
-            Some(extension) => rules_321_to_330(s, standing, extension, report),
-            None => rules_301_to_310(case, s, standing, report),
+            Some(extension) => rules_321_to_331(s, standing, extension, report),
+            None => rules_301_to_311(case, s, standing, report),
         }
     }
-    extensions.rules_341_to_350(report)
+    extensions.rules_341_to_351(report)
 }
 
 /// The extensions that the table's rows want or allow: "An extension marked "no" or "other" gets neither."
@@ -58,14 +58,15 @@ impl<'a> Extensions<'a> {
     /// Puts an extension into its row, or judges it as one that has none.
     fn sort_in(&mut self, case: Case, extension: &Extension<'a>, report: &mut Report) {
         match look_up(extension.identifier, case.profile) {
-            None | Some((_, Standing::No | Standing::Other)) => {
-                rule_362(case, extension, report);
-                rule_363(case, extension, report);
-            }
-            Some((s, _)) => {
+            Some((s, Standing::Mandatory | Standing::MandatoryCritical | Standing::Optional)) => {
                 if let Some(place) = self.by_row.get_mut(s - 1) {
                     *place = Some(*extension);
                 }
+            }
+            neither => {
+                let standing = neither.map_or(Standing::NotInTable, |(_, standing)| standing);
+                rule_362(case, standing, extension, report);
+                rule_363(case, standing, extension, report);
             }
         }
     }
@@ -75,9 +76,10 @@ impl<'a> Extensions<'a> {
     }
 
     /// "340+s value is not exactly one sound element of its RFC ASN.1 …": the module `values` quotes it whole.
-    fn rules_341_to_350(&self, report: &mut Report) -> Values<'a> {
-        // No rule judges nocheck further.
+    fn rules_341_to_351(&self, report: &mut Report) -> Values<'a> {
+        // No rule judges nocheck further, and "What the constraints name is not judged."
         self.value(10, NoCheck::read, report);
+        self.value(11, NameConstraints::read, report);
         Values {
             authority_key_identifier: self.value(1, AuthorityKeyIdentifier::read, report),
             basic_constraints: self.value(2, BasicConstraints::read, report),
@@ -106,35 +108,35 @@ impl<'a> Extensions<'a> {
 }
 
 /// "300+s an M missing (at the extension list, or TBS)."
-fn rules_301_to_310(case: Case, s: usize, standing: Standing, report: &mut Report) {
+fn rules_301_to_311(case: Case, s: usize, standing: Standing, report: &mut Report) {
     let place = match &case.certificate.extension_list {
         Some(list) => list.element,
         None => case.certificate.to_be_signed,
     };
     match standing {
         Standing::Mandatory | Standing::MandatoryCritical => report.add(300 + s as u16, place),
-        Standing::Optional | Standing::No | Standing::Other => (),
+        Standing::Optional | Standing::No | Standing::Other | Standing::NotInTable => (),
     }
 }
 
 /// "320+s critical where the table has no "crit", or the reverse."
-fn rules_321_to_330(s: usize, standing: Standing, extension: &Extension, report: &mut Report) {
+fn rules_321_to_331(s: usize, standing: Standing, extension: &Extension, report: &mut Report) {
     let must_be_critical = standing == Standing::MandatoryCritical;
     let is_kept = extension.is_critical == must_be_critical;
     report.require(320 + s as u16, is_kept, extension.element);
 }
 
 /// "362 O: each extension "no" or not in the table, save private key usage period 2.5.29.16."
-fn rule_362(case: Case, extension: &Extension, report: &mut Report) {
-    if case.profile.is_responder() {
+fn rule_362(case: Case, standing: Standing, extension: &Extension, report: &mut Report) {
+    if case.profile.has_rule(362) && matches!(standing, Standing::No | Standing::NotInTable) {
         let is_excepted = extension.identifier == PRIVATE_KEY_USAGE_PERIOD;
         report.require(362, is_excepted, extension.element);
     }
 }
 
 /// "363 S: each critical one that is "other" or not in the table."
-fn rule_363(case: Case, extension: &Extension, report: &mut Report) {
-    if case.profile.is_server() {
+fn rule_363(case: Case, standing: Standing, extension: &Extension, report: &mut Report) {
+    if case.profile.has_rule(363) && matches!(standing, Standing::Other | Standing::NotInTable) {
         report.require(363, !extension.is_critical, extension.element);
     }
 }

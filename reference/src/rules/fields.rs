@@ -4,8 +4,9 @@ use super::Case;
 use crate::certificate::Algorithm;
 use crate::number::is_positive;
 use crate::object_identifiers::SHA256_WITH_RSA_ENCRYPTION;
+use crate::profile::Profile;
 use crate::report::Report;
-use crate::time::{days, Time};
+use crate::time::{days, Date, Time};
 
 pub fn judge(case: Case, report: &mut Report) {
     rule_101(case, report);
@@ -32,7 +33,7 @@ fn rules_102_to_104(case: Case, report: &mut Report) {
     // "103 serial at most 20 content octets."
     report.require(103, contents.len() <= 20, serial_number);
     // "104 O: at least 8."
-    if case.profile.is_responder() {
+    if case.profile.has_rule(104) {
         report.require(104, contents.len() >= 8, serial_number);
     }
 }
@@ -69,12 +70,22 @@ fn rule_109(case: Case, report: &mut Report) {
 
 fn rules_110_and_111(case: Case, report: &mut Report) {
     let validity = case.certificate.validity;
-    let (_, not_before) = validity.not_before;
-    let (_, not_after) = validity.not_after;
-    let seconds = not_after.date().seconds() - not_before.date().seconds();
+    let not_before = validity.not_before.1.date();
+    let not_after = validity.not_after.1.date().seconds();
     // "110 notAfter not before notBefore."
-    report.require(110, seconds >= 0, validity.element);
-    // "111 notAfter minus notBefore at most 395 days (S), 45 days (O), of 86,400 seconds (110 and 111 at the validity)."
-    let greatest = if case.profile.is_server() { 395 } else { 45 };
-    report.require(111, seconds <= days(greatest), validity.element);
+    report.require(110, not_after >= not_before.seconds(), validity.element);
+    // "111 notAfter minus notBefore at most …" "(110 and 111 at the validity)"
+    let latest = latest_end(case.profile, not_before);
+    report.require(111, not_after <= latest, validity.element);
+}
+
+/// The last second that rule 111 permits for a validity that starts then: "at most 395 days (S), 45 days (O), of 86,400
+/// seconds"; in profile 4 "111 allows ten years: same month, day and time ten years on, 28 February for a start on 29
+/// February."
+fn latest_end(profile: Profile, not_before: Date) -> i64 {
+    match profile {
+        Profile::DomainServer | Profile::OrganizationServer => not_before.seconds() + days(395),
+        Profile::Responder => not_before.seconds() + days(45),
+        Profile::SubordinateAuthority => not_before.anniversary(10).seconds(),
+    }
 }

@@ -1,4 +1,4 @@
-//! Rules 201 to 207: the public key.
+//! Rules 201 to 208: the public key.
 
 use super::Case;
 use crate::certificate::PublicKey;
@@ -36,15 +36,15 @@ pub fn judge(case: Case, report: &mut Report) {
     rule_201(case, key, report);
     match kind_of(key) {
         KeyKind::Rsa => {
-            rule_202(key, report);
-            rules_204_to_207(case, key, report);
+            rule_202(case, key, report);
+            rules_204_to_208(case, key, report);
         }
         KeyKind::EllipticCurve => rule_203(case, key, report),
         KeyKind::Another => (),
     }
 }
 
-/// "201 key is rsaEncryption, or (S) ecPublicKey."
+/// "201 key is rsaEncryption, or (S) ecPublicKey." In profile 4 "201 RSA only".
 fn rule_201(case: Case, key: &PublicKey, report: &mut Report) {
     let is_allowed = match kind_of(key) {
         KeyKind::Rsa => true,
@@ -55,15 +55,17 @@ fn rule_201(case: Case, key: &PublicKey, report: &mut Report) {
 }
 
 /// "202 RSA key: parameters NULL."
-fn rule_202(key: &PublicKey, report: &mut Report) {
-    let algorithm = key.algorithm;
-    report.require(202, algorithm.has_null_parameters(), algorithm.element);
+fn rule_202(case: Case, key: &PublicKey, report: &mut Report) {
+    if case.profile.has_rule(202) {
+        let algorithm = key.algorithm;
+        report.require(202, algorithm.has_null_parameters(), algorithm.element);
+    }
 }
 
 /// "203 (S) EC key: parameters one of the curves in 000."
 fn rule_203(case: Case, key: &PublicKey, report: &mut Report) {
     const CURVES: [&[u8]; 3] = [CURVE_P256, CURVE_P384, CURVE_P521];
-    if !case.profile.is_server() {
+    if !case.profile.has_rule(203) {
         return;
     }
     let algorithm = key.algorithm;
@@ -74,15 +76,17 @@ fn rule_203(case: Case, key: &PublicKey, report: &mut Report) {
 }
 
 /// "204 RSA bits are, with 0 unused, exactly a sound SEQUENCE of two positive INTEGERs (at the BIT STRING); else 205 to
-/// 207 are not judged." "(205 to 207 at the INTEGER.)"
-fn rules_204_to_207(case: Case, key: &PublicKey, report: &mut Report) {
+/// 207 are not judged." "(205 to 207 at the INTEGER.)" In profile 4 "204, and new 208, modulus at least 2048 bits, else as
+/// 205".
+fn rules_204_to_208(case: Case, key: &PublicKey, report: &mut Report) {
     let Some(numbers) = RsaNumbers::read(key.bits) else {
         report.add(204, key.bits);
         return;
     };
-    rule_205(&numbers, report);
-    rule_206(&numbers, report);
+    rule_205(case, &numbers, report);
+    rule_206(case, &numbers, report);
     rule_207(case, &numbers, report);
+    rule_208(case, &numbers, report);
 }
 
 /// The INTEGERs of an RSA key.
@@ -119,22 +123,34 @@ fn positive(integer: Element<'_>) -> Result<Element<'_>, Misfit> {
 }
 
 /// "205 modulus 2048, 3072 or 4096 bits."
-fn rule_205(numbers: &RsaNumbers, report: &mut Report) {
-    let is_good = matches!(bits(numbers.modulus.contents()), 2048 | 3072 | 4096);
-    report.require(205, is_good, numbers.modulus);
+fn rule_205(case: Case, numbers: &RsaNumbers, report: &mut Report) {
+    if case.profile.has_rule(205) {
+        let is_good = matches!(bits(numbers.modulus.contents()), 2048 | 3072 | 4096);
+        report.require(205, is_good, numbers.modulus);
+    }
 }
 
 /// "206 exponent odd, from 65,537 to below 2^256−1."
-fn rule_206(numbers: &RsaNumbers, report: &mut Report) {
-    let contents = numbers.exponent.contents();
-    let is_good = is_odd(contents) && is_from_65537_to_below_2_to_256_less_1(contents);
-    report.require(206, is_good, numbers.exponent);
+fn rule_206(case: Case, numbers: &RsaNumbers, report: &mut Report) {
+    if case.profile.has_rule(206) {
+        let contents = numbers.exponent.contents();
+        let is_good = is_odd(contents) && is_from_65537_to_below_2_to_256_less_1(contents);
+        report.require(206, is_good, numbers.exponent);
+    }
 }
 
 /// "207 O: modulus divisible by none of the 133 primes below 752."
 fn rule_207(case: Case, numbers: &RsaNumbers, report: &mut Report) {
-    if case.profile.is_responder() {
+    if case.profile.has_rule(207) {
         let is_good = is_divisible_by_no_small_prime(numbers.modulus.contents());
         report.require(207, is_good, numbers.modulus);
+    }
+}
+
+/// "208, modulus at least 2048 bits"
+fn rule_208(case: Case, numbers: &RsaNumbers, report: &mut Report) {
+    if case.profile.has_rule(208) {
+        let is_good = bits(numbers.modulus.contents()) >= 2048;
+        report.require(208, is_good, numbers.modulus);
     }
 }

@@ -5,6 +5,7 @@ use crate::der::{
     constructed, primitive, Element, BIT_STRING, BOOLEAN, INTEGER, NULL, OBJECT_IDENTIFIER,
     OCTET_STRING, SEQUENCE,
 };
+use crate::number::is_negative;
 use crate::soundness::is_integer;
 use crate::structure::{at_least_one, expect, Members, Misfit};
 
@@ -35,32 +36,33 @@ impl<'a> AuthorityKeyIdentifier<'a> {
 }
 
 #[derive(Debug)]
-pub struct BasicConstraints {
-    pub is_empty: bool,
+pub struct BasicConstraints<'a> {
+    pub is_authority: bool,
+    /// The contents of the INTEGER.
+    pub path_length: Option<&'a [u8]>,
 }
 
-impl BasicConstraints {
+impl<'a> BasicConstraints<'a> {
     /// BasicConstraints ::= SEQUENCE { cA BOOLEAN DEFAULT FALSE, pathLenConstraint INTEGER (0..MAX) OPTIONAL }
-    pub fn read(element: Element) -> Result<BasicConstraints, Misfit> {
+    pub fn read(element: Element<'a>) -> Result<BasicConstraints<'a>, Misfit> {
         let mut members = Members::of(expect(element, SEQUENCE)?);
-        if let Some(authority) = members.optional(BOOLEAN) {
-            if authority.contents() != [0xFF] {
-                return Err(Misfit::at(authority));
-            }
+        let authority = members.optional(BOOLEAN);
+        if let Some(falsehood) = authority.filter(|authority| authority.contents() != [0xFF]) {
+            return Err(Misfit::at(falsehood));
         }
-        if let Some(path_length) = members.optional(INTEGER) {
-            if path_length
-                .contents()
-                .first()
-                .is_some_and(|&octet| octet >= 0x80)
-            {
-                return Err(Misfit::at(path_length));
-            }
+        let path_length = members.optional(INTEGER);
+        if let Some(negative) = path_length.filter(|length| is_negative(length.contents())) {
+            return Err(Misfit::at(negative));
         }
         members.end()?;
         Ok(BasicConstraints {
-            is_empty: element.contents().is_empty(),
+            is_authority: authority.is_some(),
+            path_length: path_length.map(|length| length.contents()),
         })
+    }
+
+    pub fn is_empty(&self) -> bool {
+        !self.is_authority && self.path_length.is_none()
     }
 }
 

@@ -1,4 +1,4 @@
-//! The values of the ten extensions, each of its RFC 5280 ASN.1: what does not fit breaks rule 340+s.
+//! The values of the table's extensions, each of its RFC 5280 ASN.1: what does not fit breaks rule 340+s.
 //!
 //! "340+s value is not exactly one sound element of its RFC ASN.1, comments aside (at the OCTET STRING; depth afresh):
 //! implicit tags judged as their type, SETs in order, named bit lists are empty or end in a set bit, defaults
@@ -8,6 +8,7 @@
 mod access;
 mod general_names;
 mod key_values;
+mod name_constraints;
 mod points;
 mod policies;
 
@@ -17,6 +18,7 @@ pub use key_values::{
     AuthorityKeyIdentifier, BasicConstraints, ExtendedKeyUsage, KeyUsage, NoCheck,
     SubjectKeyIdentifier,
 };
+pub use name_constraints::NameConstraints;
 pub use points::{DistributionPoint, DistributionPoints};
 pub use policies::{CertificatePolicies, PolicyQualifier};
 

@@ -1,6 +1,6 @@
 //! CRL distribution points.
 
-use super::{is_named_bit_list, GeneralNames};
+use super::{is_named_bit_list, GeneralName, GeneralNames};
 use crate::der::{constructed, primitive, Element, SEQUENCE};
 use crate::name::check_relative_name;
 use crate::soundness::is_ascending;
@@ -26,6 +26,14 @@ impl<'a> DistributionPoints<'a> {
             .map(DistributionPoint::read)
             .collect::<Result<_, _>>()?;
         Ok(DistributionPoints { points })
+    }
+
+    /// The names of all full names, in the order of the encoding.
+    pub fn full_names(&self) -> impl Iterator<Item = GeneralName<'a>> + '_ {
+        self.points
+            .iter()
+            .filter_map(|point| point.full_name)
+            .flat_map(|full_name| full_name.names())
     }
 }
 

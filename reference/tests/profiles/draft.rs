@@ -172,15 +172,18 @@ pub const ACCESS: &str = "1.3.6.1.5.5.7.1.1";
 pub const OCSP: &str = "1.3.6.1.5.5.7.48.1";
 pub const CA_ISSUERS: &str = "1.3.6.1.5.5.7.48.2";
 pub const NOCHECK: &str = "1.3.6.1.5.5.7.48.1.5";
+pub const CONSTRAINTS: &str = "2.5.29.30";
 
 /// The attributes of a good subject, each in a set of its own.
 fn subject_of(profile: u8) -> Vec<Vec<u8>> {
-    let mut attributes = vec![
-        attribute("2.5.4.6", 0x13, "US"),
-        attribute("2.5.4.3", 0x0C, "Www.example.gov"),
-    ];
+    let common_name = match profile {
+        4 => attribute("2.5.4.3", 0x13, "US Federal TLS CA 7"),
+        _ => attribute("2.5.4.3", 0x0C, "Www.example.gov"),
+    };
+    let mut attributes = vec![attribute("2.5.4.6", 0x13, "US"), common_name];
     if profile != 1 {
-        attributes.push(attribute("2.5.4.10", 0x0C, "U.S. Government"));
+        let string_type = if profile == 4 { 0x13 } else { 0x0C };
+        attributes.push(attribute("2.5.4.10", string_type, "U.S. Government"));
     }
     if profile == 2 {
         attributes.push(attribute("2.5.4.8", 0x13, "District of Columbia"));
@@ -191,41 +194,80 @@ fn subject_of(profile: u8) -> Vec<Vec<u8>> {
         .collect()
 }
 
-fn extensions_of(profile: u8) -> Vec<Vec<u8>> {
-    let is_server = profile != 3;
-    let policy = |dotted: &str| sequence(&[object_identifier(dotted)]);
-    let mut policies = vec![policy(FEDERAL_POLICY)];
-    if is_server {
-        policies.push(policy(&format!("2.23.140.1.2.{profile}")));
+fn policies_of(profile: u8) -> Vec<u8> {
+    let mut identifiers = vec![FEDERAL_POLICY];
+    identifiers.extend(match profile {
+        1 => Some("2.23.140.1.2.1"),
+        2 | 4 => Some("2.23.140.1.2.2"),
+        _ => None,
+    });
+    let policies = identifiers.iter().map(|dotted| object_identifier(dotted));
+    sequence(
+        &policies
+            .map(|policy| sequence(&[policy]))
+            .collect::<Vec<_>>(),
+    )
+}
+
+/// The extensions that not every profile has.
+fn own_extensions_of(profile: u8) -> Vec<Vec<u8>> {
+    match profile {
+        3 => vec![extension(NOCHECK, false, NULL)],
+        4 => vec![
+            extension("2.5.29.19", true, &[0x30, 6, 1, 1, 0xFF, 2, 1, 0]),
+            extension(
+                "2.5.29.31",
+                false,
+                &sequence(&[full_name(&[uri("http://c")])]),
+            ),
+            extension(CONSTRAINTS, true, &permitted(&[dns("gov")])),
+        ],
+        _ => vec![extension("2.5.29.19", true, &[0x30, 0])],
     }
-    let purpose = if is_server {
-        "1.3.6.1.5.5.7.3.1"
-    } else {
+}
+
+/// A CRL point with a full name of these names.
+pub fn full_name(names: &[Vec<u8>]) -> Vec<u8> {
+    sequence(&[joined(0xA0, &[joined(0xA0, names)])])
+}
+
+/// Name constraints that permit one subtree of these fields.
+pub fn permitted(fields: &[Vec<u8>]) -> Vec<u8> {
+    sequence(&[joined(0xA0, &[sequence(fields)])])
+}
+
+fn extensions_of(profile: u8) -> Vec<Vec<u8>> {
+    let is_responder = profile == 3;
+    let purpose = if is_responder {
         "1.3.6.1.5.5.7.3.9"
+    } else {
+        "1.3.6.1.5.5.7.3.1"
     };
     let purposes = sequence(&[object_identifier(purpose)]);
+    let usage: [u8; 4] = if profile == 4 {
+        [3, 2, 1, 0x06]
+    } else {
+        [3, 2, 7, 0x80]
+    };
     let names = sequence(&[dns("a.gov"), dns("wWw.example.gov")]);
     let accesses = sequence(&[
         access(OCSP, uri("http://a")),
         access(CA_ISSUERS, uri("HTTP://b")),
     ]);
-    vec![
+    let shared = vec![
         extension(
             "2.5.29.35",
             false,
             &sequence(&[element(0x80, &KEY_IDENTIFIER)]),
         ),
         extension("2.5.29.14", false, &element(4, &[0x5B; 20])),
-        extension("2.5.29.15", true, &[3, 2, 7, 0x80]),
-        extension("2.5.29.37", !is_server, &purposes),
-        extension("2.5.29.32", false, &sequence(&policies)),
+        extension("2.5.29.15", true, &usage),
+        extension("2.5.29.37", is_responder, &purposes),
+        extension("2.5.29.32", false, &policies_of(profile)),
         extension("2.5.29.17", false, &names),
         extension(ACCESS, false, &accesses),
-        match is_server {
-            true => extension("2.5.29.19", true, &[0x30, 0]),
-            false => extension(NOCHECK, false, NULL),
-        },
-    ]
+    ];
+    [shared, own_extensions_of(profile)].concat()
 }
 
 /// A certificate with no finding.

@@ -3,6 +3,7 @@
 mod draft;
 mod fields;
 mod refusals;
+mod subordinate_authority;
 mod values;
 
 use draft::*;
@@ -50,7 +51,7 @@ fn place_of(item: &[u8], certificate: &[u8]) -> usize {
 
 #[test]
 fn good_certificates_have_no_finding() {
-    for profile in 1..=3 {
+    for profile in 1..=4 {
         expect(profile, |_| (), &[]);
     }
     expect(1, |draft| draft.key = ec_key("1.3.132.0.34"), &[]);

@@ -18,22 +18,13 @@ pub(super) fn add(faults: &mut Catalogue) {
     add_repeats_of_others(faults);
     add_others_at_responders(faults);
     add_others_at_servers(faults);
-}
-
-/// The profiles in which an extension stands in a certain way.
-fn profiles_where(slot: u8, holds: fn(Standing) -> bool) -> &'static [u8] {
-    match (holds(standing(slot, 1)), holds(standing(slot, 3))) {
-        (true, true) => ALL,
-        (true, false) => SERVER,
-        (false, true) => RESPONDER,
-        (false, false) => &[],
-    }
+    add_repeats_at_authorities(faults);
 }
 
 fn add_for_slot(faults: &mut Catalogue, slot: u8) {
     let number = u16::from(slot);
-    let mandatory = profiles_where(slot, Standing::is_mandatory);
-    let judged = profiles_where(slot, Standing::is_judged);
+    let mandatory = &profiles_where(slot, Standing::is_mandatory);
+    let judged = &profiles_where(slot, Standing::is_judged);
     let both = [Extension(slot), Critical(slot)];
     let name = |what: &str| format!("extension {slot} {what}");
     faults.of_slot(slot, &both).add(&name("missing"), &[300 + number], mandatory, |pair, _, slot| {
@@ -100,6 +91,7 @@ fn add_repeats_of_others(faults: &mut Catalogue) {
     let mut faults = faults.touching(&[OtherExtensions]);
     faults.add("an extension outside the table repeated", &[361], SERVER, |pair, random, _| {
         let identifier = random.choose(&[oid::private_extension, oid::name_constraints])();
+        pair.certificate.remove_extension(&identifier);
         pair.certificate.extensions.push(other_extension(identifier.clone(), false));
         let critical = random.once_in(2);
         pair.certificate.extensions.push(other_extension(identifier, critical).breaking(361));
@@ -131,6 +123,10 @@ fn add_others_at_responders(faults: &mut Catalogue) {
         }
         insert_anywhere(pair, extension.breaking(362), random);
     });
+    faults.add("name constraints at a responder", &[362], RESPONDER, |pair, random, _| {
+        let constraints = free_name_constraints(random.once_in(2), random);
+        insert_anywhere(pair, constraints.breaking(362), random);
+    });
     faults.add("an extension that is not in the table", &[362], RESPONDER, |pair, random, _| {
         let critical = random.once_in(2);
         insert_anywhere(pair, other_extension(oid::private_extension(), critical).breaking(362), random);
@@ -148,6 +144,11 @@ fn add_others_at_servers(faults: &mut Catalogue) {
     faults.add("a critical extension outside the table", &[363], SERVER, |pair, random, _| {
         insert_anywhere(pair, other_extension(oid::private_extension(), true).breaking(363), random);
     });
+    faults.add("critical name constraints at a server", &[363], SERVER, |pair, random, _| {
+        pair.certificate.remove_extension(&oid::name_constraints());
+        let constraints = free_name_constraints(true, random);
+        insert_anywhere(pair, constraints.breaking(363), random);
+    });
     faults.add("a critical nocheck at a server", &[363], SERVER, |pair, random, _| {
         pair.certificate.remove_extension(&oid::ocsp_nocheck());
         insert_anywhere(pair, other_extension(oid::ocsp_nocheck(), true).breaking(363), random);
@@ -159,8 +160,29 @@ fn add_others_at_servers(faults: &mut Catalogue) {
     faults.add("three critical extensions outside the table", &[363], SERVER, |pair, random, _| {
         for identifier in [oid::name_constraints(), oid::issuer_alternative_name(), oid::private_extension()]
         {
+            pair.certificate.remove_extension(&identifier);
             insert_anywhere(pair, other_extension(identifier, true).breaking(363), random);
         }
+    });
+}
+
+/// Name constraints count as not in the table of servers and responders: neither 331 nor 351 is judged there.
+fn free_name_constraints(critical: bool, random: &mut Random) -> CertificateExtension {
+    let mut constraints = other_extension(oid::name_constraints(), critical);
+    let values = [vec![], vec![0x30], plain_value(11, AUTHORITY[0]).octets()];
+    constraints.value = vec![Part::Octets(random.choose(&values).clone())];
+    constraints
+}
+
+/// Where 362 and 363 do not hold, a repeat is all that there is to find.
+fn add_repeats_at_authorities(faults: &mut Catalogue) {
+    let mut faults = faults.touching(&[OtherExtensions]);
+    faults.add("an extension outside the table repeated", &[361], AUTHORITY, |pair, random, _| {
+        let identifier = random.choose(&[oid::private_extension, oid::ocsp_nocheck])();
+        pair.certificate.remove_extension(&identifier);
+        let [first, second] = [(); 2].map(|()| random.once_in(2));
+        pair.certificate.extensions.push(other_extension(identifier.clone(), first));
+        pair.certificate.extensions.push(other_extension(identifier, second).breaking(361));
     });
 }
 

@@ -1,10 +1,10 @@
-//! Faults of the fields, rules 101 to 121.
+//! Faults of the fields, rules 101 to 122.
 
 use super::Aspect::*;
 use super::Catalogue;
 use crate::calendar::{Moment, DAY};
 use crate::certificate::{algorithm, version, Attribute, Name, RelativeName};
-use crate::correct::Pair;
+use crate::correct::{Pair, AUTHORITY_NAMES};
 use crate::element::{tag, Element, Mark};
 use crate::general_names::dns;
 use crate::object_identifiers as oid;
@@ -18,9 +18,11 @@ pub(super) fn add(faults: &mut Catalogue) {
     add_algorithms(faults);
     add_issuer_name(faults);
     add_times(faults);
+    add_ten_years(faults);
     add_subject_attributes(faults);
     add_count_of_common_names(faults);
     add_common_name(faults);
+    add_name_of_authority(faults);
     add_country(faults);
     add_organization(faults);
     add_state(faults);
@@ -40,13 +42,13 @@ fn add_version(faults: &mut Catalogue) {
 
 fn add_serial(faults: &mut Catalogue) {
     let mut faults = faults.touching(&[Serial]);
-    faults.add("serial of zero", &[102], SERVER, |pair, _, _| {
+    faults.add("serial of zero", &[102], SERVER_AND_AUTHORITY, |pair, _, _| {
         pair.certificate.serial = Element::integer(&[0]).breaking(102);
     });
     faults.add("serial of zero, too short as well", &[102, 104], RESPONDER, |pair, _, _| {
         pair.certificate.serial = Element::integer(&[0]).breaking(102).breaking(104);
     });
-    faults.add("serial of 80 hex", &[102], SERVER, |pair, _, _| {
+    faults.add("serial of 80 hex", &[102], SERVER_AND_AUTHORITY, |pair, _, _| {
         pair.certificate.serial = Element::integer(&[0x80]).breaking(102);
     });
     faults.add("negative serial", &[102], ALL, |pair, random, _| {
@@ -168,10 +170,24 @@ fn add_times(faults: &mut Catalogue) {
     });
     faults.add("valid a second too long or more", &[111], ALL, |pair, random, _| {
         let over = if random.once_in(2) { 1 } else { random.between(1, 4000 * DAY as usize) as i64 };
-        too_long(pair, any_moment(random), over);
+        // Ten years and eleven later there is still a year to write.
+        too_long(pair, any_moment(random).min(Moment::at(9970, 1, 1)), over);
     });
     faults.add("too long from a UTCTime to a GeneralizedTime", &[111], ALL, |pair, _, _| {
         too_long(pair, Moment::at(2049, 12, 31), 1);
+    });
+}
+
+fn add_ten_years(faults: &mut Catalogue) {
+    let mut faults = faults.touching(&[Times]);
+    faults.add("too long from a 29 February", &[111], AUTHORITY, |pair, random, _| {
+        let year = *random.choose(&[1952, 2024, 2040, 2048, 2096, 2396, 9972]);
+        let start = Moment::at(year, 2, 29).later(random.below(DAY as usize) as i64);
+        // A day over is 1 March, where a count of months might put the end of February.
+        too_long(pair, start, *random.choose(&[1, DAY]));
+    });
+    faults.add("too long at the end of all years", &[111], AUTHORITY, |pair, _, _| {
+        too_long(pair, Moment::at(9990, 1, 1).later(-2), 1);
     });
 }
 
@@ -181,7 +197,8 @@ fn early(random: &mut Random) -> Moment {
 }
 
 fn too_long(pair: &mut Pair, not_before: Moment, over: i64) {
-    let not_after = not_before.later(longest_validity(pair.profile) + over);
+    let longest = longest_validity(pair.profile, not_before);
+    let not_after = not_before.later(longest + over);
     pair.certificate.not_before = not_before.due_form();
     pair.certificate.not_after = not_after.due_form();
     pair.certificate.validity_marks.push(Mark::Breaks(111));
@@ -199,11 +216,11 @@ fn add_subject_attributes(faults: &mut Catalogue) {
         let organization = Attribute::new(oid::organization(), Element::printable("U.S. Government"));
         pair.certificate.subject.push(organization.breaking(112));
     });
-    faults.add("an organizational unit at a server", &[112], SERVER, |pair, _, _| {
+    faults.add("an organizational unit where none belongs", &[112], SERVER_AND_AUTHORITY, |pair, _, _| {
         let unit = Attribute::new(oid::organizational_unit(), Element::printable("Bureau"));
         pair.certificate.subject.push(unit.breaking(112));
     });
-    faults.add("a state where none belongs", &[112], &[1, 3], |pair, _, _| {
+    faults.add("a state where none belongs", &[112], &[1, 3, 4], |pair, _, _| {
         let state = Attribute::new(oid::state(), Element::printable("District of Columbia"));
         pair.certificate.subject.push(state.breaking(112));
     });
@@ -225,16 +242,72 @@ fn add_count_of_common_names(faults: &mut Catalogue) {
         pair.certificate.subject.remove(&oid::common_name());
         pair.certificate.subject.breaks(113);
     });
-    faults.add("a second CN", &[113], ALL, |pair, _, _| {
+    faults.add("a second CN", &[113], END_ENTITY, |pair, _, _| {
         let further = Attribute::new(oid::common_name(), Element::utf8("unknown")).breaking(113);
         pair.certificate.subject.push(further);
     });
-    faults.add("three further CNs", &[113], ALL, |pair, _, _| {
+    faults.add("three further CNs", &[113], END_ENTITY, |pair, _, _| {
         for text in ["one", "two", "two"] {
             let further = Attribute::new(oid::common_name(), Element::utf8(text)).breaking(113);
             pair.certificate.subject.push(further);
         }
     });
+    faults.add("a second CN that is good", &[113], AUTHORITY, |pair, _, _| {
+        let further = Attribute::new(oid::common_name(), Element::printable("US Federal Test TLS CA 1"));
+        pair.certificate.subject.push(further.breaking(113));
+    });
+    faults.add("three further CNs that are wrong", &[113, 122], AUTHORITY, |pair, random, _| {
+        for _ in 0..3 {
+            let further = Attribute::new(oid::common_name(), wrong_authority(random));
+            pair.certificate.subject.push(further.breaking(113).breaking(122));
+        }
+    });
+}
+
+fn add_name_of_authority(faults: &mut Catalogue) {
+    let mut faults = faults.touching(&[CommonName]);
+    faults.add("CN not the name of a subordinate CA", &[122], AUTHORITY, |pair, random, _| {
+        spoil_attribute(pair, &oid::common_name(), wrong_authority(random), 122);
+    });
+}
+
+fn wrong_authority(random: &mut Random) -> Element {
+    let mut wrong = wrong_authorities();
+    wrong.swap_remove(random.below(wrong.len()))
+}
+
+/// Values of a CN that are not the name of a subordinate CA.
+pub fn wrong_authorities() -> Vec<Element> {
+    let mut values = Vec::new();
+    for words in AUTHORITY_NAMES {
+        let numbers =
+            ["", "0", "00", "01", "1 ", " 1", "1a", "a", "-1", "+1", "1.0", "1,000", "1\0", "\u{661}"];
+        values.extend(numbers.map(|number| Element::printable(&format!("{words}{number}"))));
+        values.push(Element::printable(words.trim_end()));
+        values.push(Element::printable(&format!("{}1", words.trim_end())));
+        values.push(Element::printable(&format!("{words}1").to_lowercase()));
+        values.push(Element::printable(&format!("{words}1").to_uppercase()));
+        values.push(Element::printable(&format!(" {words}1")));
+        values.push(Element::utf8(&format!("{words}1")));
+        let kinds = [tag::IA5_STRING, tag::TELETEX_STRING, tag::OCTET_STRING, tag::context(19)];
+        values.extend(kinds.map(|kind| Element::primitive(kind, format!("{words}1").as_bytes())));
+    }
+    let others = [
+        "",
+        "1",
+        "US Federal test TLS CA 1",
+        "US Federal TEST TLS CA 1",
+        "US Federal Test Test TLS CA 1",
+        "US Federal  TLS CA 1",
+        "US Federal TLS Test CA 1",
+        "US Federal TLS CA1",
+        "US Federal TLS ca 1",
+        "US Federal Root CA 1",
+        "Test US Federal TLS CA 1",
+        "www.agency.example",
+    ];
+    values.extend(others.map(Element::printable));
+    values
 }
 
 fn add_common_name(faults: &mut Catalogue) {
@@ -304,7 +377,7 @@ fn add_organization(faults: &mut Catalogue) {
         pair.certificate.subject.breaks(116);
     });
     faults.add("a second O", &[116], WITH_ORGANIZATION, |pair, _, _| {
-        let further = Attribute::new(oid::organization(), Element::utf8("U.S. Government"));
+        let further = Attribute::new(oid::organization(), Element::printable("U.S. Government"));
         pair.certificate.subject.push(further.breaking(116));
     });
     faults.add("a second O that is wrong", &[116, 117], WITH_ORGANIZATION, |pair, _, _| {
@@ -319,6 +392,9 @@ fn add_organization(faults: &mut Catalogue) {
     faults.add("O in another string type", &[117], WITH_ORGANIZATION, |pair, random, _| {
         let kind = *random.choose(&[tag::IA5_STRING, tag::TELETEX_STRING, tag::OCTET_STRING]);
         spoil_attribute(pair, &oid::organization(), Element::primitive(kind, b"U.S. Government"), 117);
+    });
+    faults.add("O in a UTF8String", &[117], AUTHORITY, |pair, _, _| {
+        spoil_attribute(pair, &oid::organization(), Element::utf8("U.S. Government"), 117);
     });
 }
 

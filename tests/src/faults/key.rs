@@ -1,14 +1,13 @@
-//! Faults of the key, rules 201 to 207.
+//! Faults of the key, rules 201 to 208.
 
 use super::Aspect::*;
 use super::Catalogue;
 use crate::certificate::{algorithm, node, KeyKind};
-use crate::correct::{usage, Pair};
+use crate::correct::{plain_value, Pair};
 use crate::element::{tag, Element, LengthForm, Mark, Part};
-use crate::general_names::named_bits;
 use crate::keys::*;
 use crate::object_identifiers as oid;
-use crate::profile::{ALL, RESPONDER, SERVER};
+use crate::profile::{ALL, AUTHORITY, END_ENTITY, RESPONDER, SERVER, WITH_RSA_ONLY};
 use crate::random::Random;
 
 pub(super) fn add(faults: &mut Catalogue) {
@@ -21,7 +20,8 @@ pub(super) fn add(faults: &mut Catalogue) {
 
 /// A usage that is good with every kind of key, for faults that change the kind.
 fn plain_usage(pair: &mut Pair) {
-    pair.extension(4).set_value(named_bits(&[usage::DIGITAL_SIGNATURE]));
+    let usage = plain_value(4, pair.profile);
+    pair.extension(4).set_value(usage);
 }
 
 fn add_algorithm(faults: &mut Catalogue) {
@@ -32,7 +32,7 @@ fn add_algorithm(faults: &mut Catalogue) {
         pair.certificate.key_algorithm.marks.push(Mark::Breaks(201));
         plain_usage(pair);
     });
-    faults.add("an EC key at a responder", &[201], RESPONDER, |pair, random, _| {
+    faults.add("an EC key where RSA belongs", &[201], WITH_RSA_ONLY, |pair, random, _| {
         let good_curve = random.once_in(2);
         let curve = if good_curve { oid::curve_p256() } else { oid::curve_k256() };
         use_elliptic_curve(&mut pair.certificate, Some(Element::object_identifier(&curve)), random);
@@ -40,7 +40,7 @@ fn add_algorithm(faults: &mut Catalogue) {
         plain_usage(pair);
     });
     faults.add("another algorithm with the bits of a bad RSA key", &[201], ALL, |pair, _, _| {
-        // Only an RSA key is judged by 204 to 207.
+        // Only an RSA key is judged by 204 to 208.
         use_rsa(&mut pair.certificate, &[15], &[2]);
         pair.certificate.key_kind = KeyKind::Other;
         pair.certificate.key_algorithm = algorithm(oid::ed25519(), Some(Element::null())).breaking(201);
@@ -50,7 +50,7 @@ fn add_algorithm(faults: &mut Catalogue) {
 
 fn add_parameters(faults: &mut Catalogue) {
     let mut faults = faults.touching(&[Key, Extension(4)]);
-    faults.add("RSA parameters not NULL", &[202], ALL, |pair, random, _| {
+    faults.add("RSA parameters not NULL", &[202], END_ENTITY, |pair, random, _| {
         use_good_rsa(&mut pair.certificate, random);
         let parameters = match random.below(4) {
             0 => None,
@@ -129,7 +129,7 @@ fn followed_by(mut bits: Element, octets: &[u8]) -> Element {
 
 fn add_modulus(faults: &mut Catalogue) {
     let mut faults = faults.touching(&[Key, Extension(4)]);
-    faults.add("a modulus of another size", &[205], ALL, |pair, random, _| {
+    faults.add("a modulus of another size", &[205], END_ENTITY, |pair, random, _| {
         let sizes = [1024, 2040, 2047, 2049, 2056, 3071, 3073, 4095, 4097, 8192];
         let modulus = new_modulus(*random.choose(&sizes), random);
         use_rsa(&mut pair.certificate, &modulus, &[1, 0, 1]);
@@ -150,6 +150,13 @@ fn add_modulus(faults: &mut Catalogue) {
         break_at(pair, node::MODULUS, 207);
         plain_usage(pair);
     });
+    faults.add("a modulus under 2048 bits", &[208], AUTHORITY, |pair, random, _| {
+        let moduli: [&[u8]; 5] = [&[1], &[15], &[0x80; 128], &[0xFF; 255], &[0x7F; 256]];
+        let exponents: [&[u8]; 4] = [&[1], &[3], &[1, 0, 1], &[0xFF; 300]];
+        let (modulus, exponent) = (*random.choose(&moduli), *random.choose(&exponents));
+        use_rsa(&mut pair.certificate, modulus, exponent);
+        break_at(pair, node::MODULUS, 208);
+    });
     faults.add("a tiny modulus", &[205, 207], RESPONDER, |pair, _, _| {
         use_rsa(&mut pair.certificate, &[15], &[1, 0, 1]);
         break_at(pair, node::MODULUS, 205);
@@ -160,14 +167,14 @@ fn add_modulus(faults: &mut Catalogue) {
 
 fn add_exponent(faults: &mut Catalogue) {
     let mut faults = faults.touching(&[Key, Extension(4)]);
-    faults.add("an exponent that is even or out of range", &[206], ALL, |pair, random, _| {
+    faults.add("an exponent that is even or out of range", &[206], END_ENTITY, |pair, random, _| {
         let modulus = good_modulus(2048, random);
         let exponent = bad_exponent(random);
         use_rsa(&mut pair.certificate, &modulus, &exponent);
         break_at(pair, node::EXPONENT, 206);
         plain_usage(pair);
     });
-    faults.add("an exponent of 3 with a modulus of 1024 bits", &[205, 206], ALL, |pair, random, _| {
+    faults.add("an exponent of 3 with a modulus of 1024 bits", &[205, 206], END_ENTITY, |pair, random, _| {
         let modulus = new_modulus(1024, random);
         use_rsa(&mut pair.certificate, &modulus, &[3]);
         break_at(pair, node::MODULUS, 205);

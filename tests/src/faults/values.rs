@@ -1,4 +1,4 @@
-//! Faults of what extensions say, rules 401 to 419.
+//! Faults of what extensions say, rules 401 to 424.
 
 use super::Aspect::*;
 use super::Catalogue;
@@ -17,12 +17,15 @@ pub(super) fn add(faults: &mut Catalogue) {
     add_basic_constraints(faults);
     add_subject_key(faults);
     add_usage(faults);
+    add_usage_of_authority(faults);
     add_purposes(faults);
     add_policies(faults);
     add_host_names(faults);
     add_missing_access(faults);
     add_wrong_access(faults);
+    add_access_of_authority(faults);
     add_points(faults);
+    add_points_of_authority(faults);
 }
 
 fn add_authority_key(faults: &mut Catalogue) {
@@ -89,6 +92,30 @@ fn add_basic_constraints(faults: &mut Catalogue) {
         pair.extension(2).set_value(Element::sequence(fields));
         pair.extension(2).breaks_at_value(402);
     });
+    faults.add("not cA with path length 0", &[421], AUTHORITY, |pair, random, _| {
+        let mut wrong = wrong_paths();
+        let chosen = wrong.swap_remove(random.below(wrong.len()));
+        pair.extension(2).set_value(chosen);
+        pair.extension(2).breaks_at_value(421);
+    });
+}
+
+/// Basic constraints that are not cA true with path length 0.
+pub fn wrong_paths() -> Vec<Element> {
+    let cases: [(bool, Option<&[u8]>); 7] = [
+        (false, None),
+        (false, Some(&[0])),
+        (false, Some(&[1])),
+        (true, None),
+        (true, Some(&[1])),
+        (true, Some(&[0, 0x80])),
+        (true, Some(&[1, 0])),
+    ];
+    let fields = |(authority, path): (bool, Option<&[u8]>)| {
+        let authority = authority.then(|| Element::boolean(true));
+        Element::sequence(authority.into_iter().chain(path.map(Element::integer)).collect())
+    };
+    cases.map(fields).to_vec()
 }
 
 fn add_subject_key(faults: &mut Catalogue) {
@@ -103,13 +130,13 @@ fn add_subject_key(faults: &mut Catalogue) {
 
 fn add_usage(faults: &mut Catalogue) {
     let mut faults = faults.touching(&[Extension(4), Key]);
-    faults.add("no digitalSignature", &[404], ALL, |pair, random, _| {
+    faults.add("no digitalSignature", &[404], END_ENTITY, |pair, random, _| {
         let second = second_usage(pair).filter(|_| random.once_in(2));
         let bits: Vec<usize> = second.into_iter().collect();
         pair.extension(4).set_value(named_bits(&bits));
         pair.extension(4).breaks_at_value(404);
     });
-    faults.add("a usage too many", &[405], ALL, |pair, random, _| {
+    faults.add("a usage too many", &[405], END_ENTITY, |pair, random, _| {
         let mut bits = vec![usage::DIGITAL_SIGNATURE];
         for _ in 0..random.between(1, 3) {
             bits.push(forbidden_usage(pair, random));
@@ -117,7 +144,7 @@ fn add_usage(faults: &mut Catalogue) {
         pair.extension(4).set_value(named_bits(&bits));
         pair.extension(4).breaks_at_value(405);
     });
-    faults.add("another usage instead", &[404, 405], ALL, |pair, random, _| {
+    faults.add("another usage instead", &[404, 405], END_ENTITY, |pair, random, _| {
         let bit = forbidden_usage(pair, random);
         pair.extension(4).set_value(named_bits(&[bit]));
         pair.extension(4).breaks_at_value(404);
@@ -129,6 +156,18 @@ fn add_usage(faults: &mut Catalogue) {
         let bit = *random.choose(&[usage::KEY_ENCIPHERMENT, usage::KEY_AGREEMENT]);
         pair.extension(4).set_value(named_bits(&[0, bit]));
         pair.extension(4).breaks_at_value(405);
+    });
+}
+
+fn add_usage_of_authority(faults: &mut Catalogue) {
+    let mut faults = faults.touching(&[Extension(4)]);
+    faults.add("not both keyCertSign and cRLSign", &[422], AUTHORITY, |pair, random, _| {
+        let mut bits: Vec<usize> = (0..random.below(4)).map(|_| random.below(13)).collect();
+        bits.extend(AUTHORITY_USAGE);
+        let missing = *random.choose(&AUTHORITY_USAGE);
+        bits.retain(|bit| *bit != missing && (*bit == 0 || random.once_in(2)));
+        pair.extension(4).set_value(named_bits(&bits));
+        pair.extension(4).breaks_at_value(422);
     });
 }
 
@@ -153,19 +192,26 @@ fn purpose(identifier: Vec<u8>) -> Element {
 
 fn add_purposes(faults: &mut Catalogue) {
     let mut faults = faults.touching(&[Extension(5)]);
-    faults.add("clientAuth without serverAuth", &[407], SERVER, |pair, _, _| {
+    faults.add("clientAuth without serverAuth", &[407], SERVER_AND_AUTHORITY, |pair, _, _| {
         pair.extension(5).set_value(Element::sequence(vec![purpose(oid::client_auth())]));
         pair.extension(5).breaks_at_value(407);
     });
-    faults.add("another purpose instead", &[407, 408], ALL, |pair, random, _| {
+    faults.add("other purposes without serverAuth", &[407], AUTHORITY, |pair, random, _| {
+        let others = [oid::ocsp_signing, oid::client_auth, oid::any_purpose, oid::code_signing];
+        let purposes = (0..random.between(1, 3)).map(|_| purpose(random.choose(&others)()));
+        let purposes = Element::sequence(purposes.collect());
+        pair.extension(5).set_value(purposes);
+        pair.extension(5).breaks_at_value(407);
+    });
+    faults.add("another purpose instead", &[407, 408], END_ENTITY, |pair, random, _| {
         let other = other_purpose(pair.profile, random);
         pair.extension(5).set_value(Element::sequence(vec![purpose(other).breaking(408)]));
         pair.extension(5).breaks_at_value(407);
     });
-    faults.add("one odd purpose", &[408], ALL, |pair, random, _| {
+    faults.add("one odd purpose", &[408], END_ENTITY, |pair, random, _| {
         add_odd_purposes(pair, 1, random);
     });
-    faults.add("three odd purposes, two alike", &[408], ALL, |pair, random, _| {
+    faults.add("three odd purposes, two alike", &[408], END_ENTITY, |pair, random, _| {
         let other = other_purpose(pair.profile, random);
         pair.extension(5).value().push(purpose(other.clone()).breaking(408));
         pair.extension(5).value().push(purpose(other).breaking(408));
@@ -199,34 +245,32 @@ fn add_policies(faults: &mut Catalogue) {
     let mut faults = faults.touching(&[Extension(6)]);
     faults.add("no federal policy", &[409], ALL, |pair, random, _| {
         let mut policies: Vec<Element> = Vec::new();
-        policies.extend(forum_policy(pair.profile).map(|identifier| policy(identifier, vec![])));
+        let forum = forum_policies(pair.profile);
+        policies.extend(forum.into_iter().map(|identifier| policy(identifier, vec![])));
         let other = random.choose(&[oid::federal_policy_arc, oid::beside_federal_policy, oid::any_policy])();
         policies.push(policy(other, vec![]));
         set_policies(pair, policies, 409);
     });
-    faults.add("no policy of the forum", &[410], SERVER, |pair, random, _| {
+    faults.add("no policy of the forum", &[410], SERVER_AND_AUTHORITY, |pair, random, _| {
         let mut policies = vec![policy(oid::federal_policy(), vec![])];
-        let other_kind = forum_policy(3 - pair.profile).expect("a server profile has a forum policy");
-        match random.below(4) {
-            0 => policies.push(policy(other_kind, vec![])),
-            1 => policies.push(policy(oid::individual_validated(), vec![])),
-            2 => {
-                let own = forum_policy(pair.profile).expect("a server profile has a forum policy");
-                policies.push(policy([own, vec![1]].concat(), vec![]));
-            }
-            _ => {}
+        let wanted = forum_policies(pair.profile);
+        let mut others = vec![oid::domain_validated(), oid::organization_validated()];
+        others.retain(|identifier| !wanted.contains(identifier));
+        others.extend([oid::individual_validated(), [wanted[0].as_slice(), &[1]].concat()]);
+        if !random.once_in(4) {
+            policies.push(policy(random.choose(&others).clone(), vec![]));
         }
         set_policies(pair, policies, 410);
     });
-    faults.add("neither policy", &[409, 410], SERVER, |pair, _, _| {
+    faults.add("neither policy", &[409, 410], SERVER_AND_AUTHORITY, |pair, _, _| {
         set_policies(pair, vec![policy(oid::any_policy(), vec![])], 409);
         pair.extension(6).breaks_at_value(410);
     });
-    faults.add("one odd qualifier", &[411], ALL, |pair, random, _| {
+    faults.add("one odd qualifier", &[411], END_ENTITY, |pair, random, _| {
         let qualifiers = vec![statement(), odd_qualifier(random), statement()];
         pair.extension(6).value().push(policy(oid::any_policy(), qualifiers));
     });
-    faults.add("three odd qualifiers", &[411], ALL, |pair, random, _| {
+    faults.add("three odd qualifiers", &[411], END_ENTITY, |pair, random, _| {
         let first = policy(oid::any_policy(), vec![odd_qualifier(random)]);
         let second =
             policy(oid::private_extension(), vec![odd_qualifier(random), statement(), odd_qualifier(random)]);
@@ -268,27 +312,27 @@ fn add_names(pair: &mut Pair, names: Vec<Element>, random: &mut Random) {
 
 fn add_host_names(faults: &mut Catalogue) {
     let mut faults = faults.touching(&[Extension(7)]);
-    faults.add("a name that is no host name", &[412], ALL, |pair, random, _| {
+    faults.add("a name that is no host name", &[412], END_ENTITY, |pair, random, _| {
         let name = odd_name(random).breaking(412);
         add_names(pair, vec![name], random);
     });
-    faults.add("four names that are no host names", &[412], ALL, |pair, random, _| {
+    faults.add("four names that are no host names", &[412], END_ENTITY, |pair, random, _| {
         let names = (0..4).map(|_| odd_name(random).breaking(412)).collect();
         add_names(pair, names, random);
     });
-    faults.add("an underscore in a host name", &[413], SERVER, |pair, random, _| {
+    faults.add("an underscore in a host name", &[413], SERVER_AND_AUTHORITY, |pair, random, _| {
         let host =
             random.choose(&["_dns.agency.example", "under_score.agency.example", "a.b_", "_._", "a._"]);
         add_names(pair, vec![dns(host).breaking(413)], random);
     });
-    faults.add("an underscore in two host names", &[413], SERVER, |pair, random, _| {
+    faults.add("an underscore in two host names", &[413], SERVER_AND_AUTHORITY, |pair, random, _| {
         add_names(pair, vec![dns("a_.example").breaking(413), dns("a_.example").breaking(413)], random);
     });
-    faults.add("a malformed host name", &[414], ALL, |pair, random, _| {
+    faults.add("a malformed host name", &[414], END_ENTITY, |pair, random, _| {
         let host = random.choose(&malformed_hosts()).clone();
         add_names(pair, vec![Element::primitive(tag::context(2), &host).breaking(414)], random);
     });
-    faults.add("three malformed host names", &[414], ALL, |pair, random, _| {
+    faults.add("three malformed host names", &[414], END_ENTITY, |pair, random, _| {
         let host = |random: &mut Random| random.choose(&malformed_hosts()).clone();
         let names =
             (0..3).map(|_| Element::primitive(tag::context(2), &host(random)).breaking(414)).collect();
@@ -296,6 +340,9 @@ fn add_host_names(faults: &mut Catalogue) {
     });
     faults.add("an underscore alone", &[413, 414], SERVER, |pair, random, _| {
         add_names(pair, vec![dns("_").breaking(413).breaking(414)], random);
+    });
+    faults.add("underscores in malformed host names", &[413], AUTHORITY, |pair, random, _| {
+        add_names(pair, vec![dns("_").breaking(413), dns("-a_.").breaking(413)], random);
     });
 }
 
@@ -356,7 +403,7 @@ pub fn long_host(length: usize) -> Vec<u8> {
 fn add_missing_access(faults: &mut Catalogue) {
     let mut faults = faults.touching(&[Extension(8)]);
     faults.add("no OCSP address", &[415], SERVER, |pair, random, _| {
-        let mut entries = vec![access(oid::access_to_issuers(), uri("http://a/b"))];
+        let mut entries = vec![http_issuers()];
         match random.below(3) {
             0 => entries.push(access(oid::access_by_ocsp(), dns("ocsp.agency.example"))),
             1 => entries.push(access(oid::access_to_repository(), uri("http://ocsp.agency.example"))),
@@ -364,7 +411,7 @@ fn add_missing_access(faults: &mut Catalogue) {
         }
         set_access(pair, entries, 415);
     });
-    faults.add("no caIssuers entry at a server", &[416], SERVER, |pair, _, _| {
+    faults.add("no caIssuers entry", &[416], SERVER_AND_AUTHORITY, |pair, _, _| {
         set_access(pair, vec![access(oid::access_by_ocsp(), uri("http://ocsp"))], 416);
     });
     faults.add("no caIssuers address at a responder", &[416], RESPONDER, |pair, random, _| {
@@ -374,7 +421,7 @@ fn add_missing_access(faults: &mut Catalogue) {
         }
         set_access(pair, entries, 416);
     });
-    faults.add("caIssuers a directory name at a server", &[416, 417], SERVER, |pair, _, _| {
+    faults.add("caIssuers only a directory name", &[416, 417], SERVER_AND_AUTHORITY, |pair, _, _| {
         let entries = vec![
             access(oid::access_to_issuers(), odd_location()).breaking(417),
             access(oid::access_by_ocsp(), uri("http://ocsp")),
@@ -385,20 +432,52 @@ fn add_missing_access(faults: &mut Catalogue) {
 
 fn add_wrong_access(faults: &mut Catalogue) {
     let mut faults = faults.touching(&[Extension(8)]);
-    faults.add("a caIssuers entry not an HTTP URI", &[417], SERVER, |pair, random, _| {
+    faults.add("a caIssuers entry not an HTTP URI", &[417], SERVER_AND_AUTHORITY, |pair, random, _| {
         let location = not_http(random);
         pair.extension(8).value().push(access(oid::access_to_issuers(), location).breaking(417));
     });
-    faults.add("three caIssuers entries not HTTP URIs", &[417], SERVER, |pair, random, _| {
+    faults.add("three caIssuers entries not HTTP URIs", &[417], SERVER_AND_AUTHORITY, |pair, random, _| {
         for _ in 0..3 {
-            let location = not_http(random);
-            let list = pair.extension(8).value();
-            list.insert(
-                random.below(list.contents.len() + 1),
-                access(oid::access_to_issuers(), location).breaking(417),
-            );
+            insert_not_http(pair, oid::access_to_issuers(), 417, random);
         }
     });
+}
+
+/// An entry of this method, anywhere among the others, that is not an HTTP URI.
+fn insert_not_http(pair: &mut Pair, method: Vec<u8>, rule: u16, random: &mut Random) {
+    let entry = access(method, not_http(random)).breaking(rule);
+    let list = pair.extension(8).value();
+    list.insert(random.below(list.contents.len() + 1), entry);
+}
+
+fn add_access_of_authority(faults: &mut Catalogue) {
+    let mut faults = faults.touching(&[Extension(8)]);
+    faults.add("no OCSP entry", &[415], AUTHORITY, |pair, random, _| {
+        let mut entries = vec![http_issuers()];
+        if random.once_in(2) {
+            entries.push(access(oid::access_to_repository(), uri("http://ocsp.agency.example")));
+        }
+        set_access(pair, entries, 415);
+    });
+    faults.add("an OCSP entry without a URI", &[415, 423], AUTHORITY, |pair, random, _| {
+        let location = random.choose(&[odd_location(), dns("http://a.b/c"), mail("http://a")]).clone();
+        let entries = vec![access(oid::access_by_ocsp(), location).breaking(423), http_issuers()];
+        set_access(pair, entries, 415);
+    });
+    faults.add("an OCSP entry whose only URI is not HTTP", &[423], AUTHORITY, |pair, random, _| {
+        let address = random.choose::<&str>(&NOT_HTTP);
+        let entries = vec![http_issuers(), access(oid::access_by_ocsp(), uri(address)).breaking(423)];
+        pair.extension(8).set_value(Element::sequence(entries));
+    });
+    faults.add("three OCSP entries not HTTP URIs", &[423], AUTHORITY, |pair, random, _| {
+        for _ in 0..3 {
+            insert_not_http(pair, oid::access_by_ocsp(), 423, random);
+        }
+    });
+}
+
+fn http_issuers() -> Element {
+    access(oid::access_to_issuers(), uri("http://a/b"))
 }
 
 fn set_access(pair: &mut Pair, entries: Vec<Element>, rule: u16) {
@@ -424,7 +503,7 @@ pub const NOT_HTTP: [&str; 8] =
 
 fn add_points(faults: &mut Catalogue) {
     let mut faults = faults.touching(&[Extension(9)]);
-    faults.add("no HTTP address in any point", &[418], ALL, |pair, random, _| {
+    faults.add("no HTTP address in any point", &[418], END_ENTITY, |pair, random, _| {
         let mut names = vec![not_http(random), mail("http://a")];
         random.shuffle(&mut names);
         let mut points = vec![point(vec![full_name(names)])];
@@ -454,6 +533,38 @@ fn add_points(faults: &mut Catalogue) {
         let points = vec![odd_point(random), odd_point(random), http_point(), odd_point(random)];
         set_points(pair, points);
     });
+}
+
+fn add_points_of_authority(faults: &mut Catalogue) {
+    let mut faults = faults.touching(&[Extension(9)]);
+    faults.add("no URI in any point", &[418], AUTHORITY, |pair, random, _| {
+        let names = vec![odd_location(), mail("http://a"), dns("http://a")];
+        let points =
+            if random.once_in(2) { vec![point(vec![full_name(names)])] } else { vec![point(vec![])] };
+        set_points(pair, points);
+        pair.extension(9).breaks_at_value(418);
+    });
+    faults.add("no URI of a point is HTTP", &[418, 424], AUTHORITY, |pair, random, _| {
+        let names = vec![odd_uri(random), dns("http://a"), odd_uri(random)];
+        set_points(pair, vec![point(vec![full_name(names)])]);
+        pair.extension(9).breaks_at_value(418);
+    });
+    faults.add("a URI of a point not HTTP", &[424], AUTHORITY, |pair, random, _| {
+        let mut names = vec![uri("http://a"), odd_uri(random), mail("ldap://a")];
+        random.shuffle(&mut names);
+        set_points(pair, vec![point(vec![full_name(names)])]);
+    });
+    faults.add("three URIs of two points not HTTP", &[424], AUTHORITY, |pair, random, _| {
+        let first = point(vec![full_name(vec![odd_uri(random), odd_uri(random)])]);
+        let mut points = vec![first, http_point(), point(vec![full_name(vec![odd_uri(random)])])];
+        random.shuffle(&mut points);
+        set_points(pair, points);
+    });
+}
+
+/// A URI in a full name that is not HTTP.
+fn odd_uri(random: &mut Random) -> Element {
+    uri(random.choose::<&str>(&NOT_HTTP)).breaking(424)
 }
 
 fn set_points(pair: &mut Pair, points: Vec<Element>) {

@@ -7,7 +7,7 @@ mod values;
 use std::sync::OnceLock;
 
 use comparison::amount::{cases, say};
-use comparison::answers::{Family, Frame, Question, Questioning, Tally};
+use comparison::answers::{kind_of_value, Family, Frame, Question, Questioning, Tally};
 use comparison::bad_values::{bad_values, edge_values, fullest_value, nested_other_name};
 use comparison::certificate::{node, Certificate};
 use comparison::correct::{
@@ -21,14 +21,14 @@ use comparison::holding::{rules_of, Comparison, AMPLE_ROOM};
 use comparison::malformed::{malformed, with_a_broken_time, with_every_field};
 use comparison::mutants::{outside_whole_and_mutated, whole_and_mutated, Mutants};
 use comparison::mutation::*;
-use comparison::profile::{identifier_of, standing, ALL, SLOTS};
+use comparison::profile::{any_slot, identifier_of, judging_profile, standing, ALL, SLOTS};
 use comparison::random::Random;
 use comparison::times::times_at_their_edges;
 use comparison::trees::{tree, value_like};
 use reference::{lint, Answer, Refusal};
 
-/// The question whether octets are a certificate. The questions about values have the numbers of
-/// their extensions.
+/// The question whether octets are a certificate. The questions about values go by their
+/// extensions.
 const CERTIFICATE: u8 = 0;
 
 /// The most octets that a certificate may have.
@@ -39,8 +39,13 @@ const MOST_OCTETS: usize = 8192;
 fn expected(frame: &Frame) -> Option<String> {
     match frame.kind {
         CERTIFICATE => expected_of_certificate(&frame.octets),
-        slot => expected_of_value(slot, &frame.octets),
+        kind => expected_of_value(slot_of(kind)?, &frame.octets),
     }
+}
+
+/// The extension whose values are asked about by frames of this kind.
+fn slot_of(kind: u8) -> Option<u8> {
+    SLOTS.into_iter().find(|slot| kind_of_value(*slot) == kind)
 }
 
 fn expected_of_certificate(octets: &[u8]) -> Option<String> {
@@ -118,16 +123,11 @@ fn holder(slot: u8) -> &'static Holder {
     &holders[usize::from(slot) - 1]
 }
 
-/// A profile in which the values of an extension are judged.
-fn judging_profile(slot: u8) -> u8 {
-    let judging = ALL.iter().find(|profile| standing(slot, **profile).is_judged());
-    *judging.expect("every extension of the table is judged somewhere")
-}
-
 fn by_hand(items: ByHand) -> impl Iterator<Item = Question> {
-    items
-        .iter()
-        .map(|(kind, octets, line)| Question::with_line(Frame::of_kind(*kind, hex::octets(octets)), line))
+    items.iter().map(|(asked, octets, line)| {
+        let kind = if *asked == 0 { CERTIFICATE } else { kind_of_value(*asked) };
+        Question::with_line(Frame::of_kind(kind, hex::octets(octets)), line)
+    })
 }
 
 #[test]
@@ -144,13 +144,13 @@ fn the_reference_agrees_with_what_is_due() {
 #[test]
 fn the_program_tells_certificates_as_the_reference_does() {
     let tally = ask(&[certificates::judged, certificates::open]);
-    hold_tally(tally, CERTIFICATE..=CERTIFICATE, &["certificate", "departs", "unordered", "unsound"]);
+    hold_tally(tally, [CERTIFICATE], &["certificate", "departs", "unordered", "unsound"]);
 }
 
 #[test]
 fn the_program_tells_values_as_the_reference_does() {
     let tally = ask(&[values::judged, values::open]);
-    hold_tally(tally, SLOTS, &["no", "value"]);
+    hold_tally(tally, SLOTS.map(kind_of_value), &["no", "value"]);
 }
 
 /// Asks the program all questions of these lists, each made when its turn comes; nothing where the
@@ -169,7 +169,7 @@ fn ask(lists: &[fn() -> Vec<Family>]) -> Option<Tally> {
 }
 
 /// Says how many frames of each kind were compared, and fails if an answer was never met.
-fn hold_tally(tally: Option<Tally>, kinds: std::ops::RangeInclusive<u8>, all: &[&str]) {
+fn hold_tally(tally: Option<Tally>, kinds: impl IntoIterator<Item = u8>, all: &[&str]) {
     let Some(tally) = tally else { return };
     for kind in kinds {
         let answers = tally.answers(kind);

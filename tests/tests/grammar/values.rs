@@ -1,13 +1,14 @@
 //! Questions about extension values.
 
 use super::*;
+use comparison::general_names::*;
 
 fn value(slot: u8, octets: Vec<u8>) -> Question {
-    Question::open(Frame::of_kind(slot, octets))
+    Question::open(Frame::of_kind(kind_of_value(slot), octets))
 }
 
 fn judged_value(slot: u8, octets: Vec<u8>, is_value: bool) -> Question {
-    Question::with_line(Frame::of_kind(slot, octets), line_of_value(is_value))
+    Question::with_line(Frame::of_kind(kind_of_value(slot), octets), line_of_value(is_value))
 }
 
 pub fn judged() -> Vec<Family> {
@@ -85,6 +86,7 @@ fn short_contents() -> Vec<Question> {
             questions.extend(named_bit_lists(unused, first));
         }
         questions.push(judged_value(2, vec![0x30, 3, 2, 1, first], first < 0x80));
+        questions.extend(distances(&[first], (1..0x80).contains(&first), first < 0x80));
         questions.push(judged_value(1, vec![0x30, 3, 0x82, 1, first], true));
         questions.push(judged_value(7, vec![0x30, 3, 0x88, 1, first], first < 0x80));
         questions.push(judged_value(5, vec![0x30, 3, 6, 1, first], first < 0x80));
@@ -93,12 +95,21 @@ fn short_contents() -> Vec<Question> {
             let is_identifier = first != 0x80 && second < 0x80;
             let is_count = is_minimal && first < 0x80;
             questions.push(judged_value(2, vec![0x30, 4, 2, 2, first, second], is_count));
+            questions.extend(distances(&[first, second], is_count, is_count));
             questions.push(judged_value(1, vec![0x30, 4, 0x82, 2, first, second], is_minimal));
             questions.push(judged_value(7, vec![0x30, 4, 0x88, 2, first, second], is_identifier));
             questions.push(judged_value(5, vec![0x30, 4, 6, 2, first, second], is_identifier));
         }
     }
     questions
+}
+
+/// A subtree of a permitted list with these contents as its minimum, and with them as its maximum.
+fn distances(contents: &[u8], is_minimum: bool, is_maximum: bool) -> [Question; 2] {
+    [(minimum(contents), is_minimum), (maximum(contents), is_maximum)].map(|(distance, is_value)| {
+        let constraints = name_constraints(vec![subtree(dns("a"), vec![distance])], vec![]);
+        judged_value(11, constraints.octets(), is_value)
+    })
 }
 
 /// Key usages and reasons whose last octet is this one: the last bit in use is set.
@@ -118,12 +129,14 @@ fn values_at_limits() -> Vec<Question> {
         questions.push(judged_value(7, nested_other_name(depth).octets(), depth <= 16));
     }
     let many = |member: Element, count: usize| Element::sequence(vec![member; count]).octets();
-    let name = || comparison::general_names::uri("");
+    let name = || uri("");
     questions.push(judged_value(3, Element::octet_string(&[0; 6000]).octets(), true));
     questions.push(judged_value(5, many(Element::object_identifier(&[0x2A]), 2000), true));
     questions.push(judged_value(7, many(name(), 3000), true));
-    questions.push(judged_value(8, many(comparison::general_names::access(vec![0x2A], name()), 800), true));
+    questions.push(judged_value(8, many(access(vec![0x2A], name()), 800), true));
     questions.push(judged_value(9, many(Element::sequence(vec![]), 3000), true));
+    let subtrees = vec![subtree(name(), vec![]); 1400];
+    questions.push(judged_value(11, name_constraints(subtrees, vec![]).octets(), true));
     questions
 }
 
@@ -195,7 +208,7 @@ fn mutated_values() -> impl Iterator<Item = Question> {
 }
 
 fn any_value(random: &mut Random) -> (u8, Vec<Part>) {
-    let slot = random.between(1, 10) as u8;
+    let slot = any_slot(random);
     match random.below(4) {
         0 => {
             let values = values_of(&correct(*random.choose(ALL), random));
@@ -209,7 +222,7 @@ fn any_value(random: &mut Random) -> (u8, Vec<Part>) {
 fn trees_as_values() -> impl Iterator<Item = Question> {
     let mut random = Random::for_purpose("trees as values");
     std::iter::repeat_with(move || {
-        let slot = random.between(1, 10) as u8;
+        let slot = any_slot(&mut random);
         let depth = random.between(1, 5);
         let tree = match random.below(4) {
             0 => tree(depth, &mut random),

@@ -1,6 +1,9 @@
-//! The points that document 01 leaves open, as the design decides them: one test for each reading. Those of the deck are in
-//! `deck_readings`.
+//! The points that documents 01 and 02 leave open, as the design decides them: one test for each reading. Those of the
+//! deck are in `deck_readings`.
 
+mod authority_extensions;
+mod authority_fields;
+mod authority_values;
 mod issuer;
 mod places;
 mod refusals;

@@ -91,10 +91,10 @@ fn a_missing_extension_is_placed_at_the_inner_sequence_or_at_the_tbs_structure()
 
 #[test]
 fn items_are_placed_at_the_element_that_is_the_item() {
-    in_every(ALL, "a purpose is its OBJECT IDENTIFIER", |pair| {
+    in_every(END_ENTITY, "a purpose is its OBJECT IDENTIFIER", |pair| {
         pair.extension(5).value().push(Element::object_identifier(&oid::any_purpose()).breaking(408));
     });
-    in_every(ALL, "a qualifier is the PolicyQualifierInfo", |pair| {
+    in_every(END_ENTITY, "a qualifier is the PolicyQualifierInfo", |pair| {
         let odd = qualifier(oid::user_notice(), Element::sequence(vec![])).breaking(411);
         pair.extension(6).value().push(policy(oid::any_policy(), vec![odd]));
     });
@@ -104,7 +104,7 @@ fn items_are_placed_at_the_element_that_is_the_item() {
         names.push(dns("a_b.c").breaking(413));
         names.push(dns("a b.c").breaking(414));
     });
-    in_every(SERVER, "an access is the AccessDescription", |pair| {
+    in_every(SERVER_AND_AUTHORITY, "an access is the AccessDescription", |pair| {
         pair.extension(8).value().push(access(oid::access_to_issuers(), uri("ftp://a")).breaking(417));
     });
     in_every(ALL, "a point is the DistributionPoint, once with both fields", |pair| {

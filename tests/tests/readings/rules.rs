@@ -151,7 +151,7 @@ fn the_kind_of_a_key_goes_by_its_algorithm_identifier_alone() {
             algorithm(oid::elliptic_curve_key(), Some(Element::object_identifier(&oid::curve_p384())));
         pair.extension(4).set_value(named_bits(&[0, usage::KEY_AGREEMENT]));
     });
-    in_every(ALL, "RSA without NULL is RSA", |pair| {
+    in_every(END_ENTITY, "RSA without NULL is RSA", |pair| {
         use_rsa(&mut pair.certificate, &modulus, &[3]);
         pair.certificate.key_algorithm = algorithm(oid::rsa_encryption(), None).breaking(202);
         pair.certificate.key_bits.find(node::EXPONENT).marks.push(Mark::Breaks(206));
@@ -176,10 +176,16 @@ fn rule_205_counts_the_bits_of_the_number() {
     let mut random = Random::for_purpose("bits of a modulus");
     for bits in [2041, 2047, 2048, 2049, 3072, 4096, 4097] {
         let modulus = new_modulus(bits, &mut random);
-        in_every(ALL, "a modulus", |pair| {
+        in_every(END_ENTITY, "a modulus", |pair| {
             use_rsa(&mut pair.certificate, &modulus, &[1, 0, 1]);
             if !GOOD_SIZES.contains(&bits) {
                 pair.certificate.key_bits.find(node::MODULUS).marks.push(Mark::Breaks(205));
+            }
+        });
+        in_every(AUTHORITY, "208 counts them too", |pair| {
+            use_rsa(&mut pair.certificate, &modulus, &[1, 0, 1]);
+            if bits < 2048 {
+                pair.certificate.key_bits.find(node::MODULUS).marks.push(Mark::Breaks(208));
             }
         });
     }
@@ -199,7 +205,7 @@ fn rule_206_goes_from_65537_to_below_the_power() {
         (power_less_one, false),
         ([vec![1], vec![0; 31], vec![1]].concat(), false),
     ] {
-        in_every(ALL, "an exponent", |pair| {
+        in_every(END_ENTITY, "an exponent", |pair| {
             use_rsa(&mut pair.certificate, &modulus, &exponent);
             if !good {
                 pair.certificate.key_bits.find(node::EXPONENT).marks.push(Mark::Breaks(206));
@@ -240,7 +246,7 @@ fn rule_111_is_kept_with_the_times_the_wrong_way_round() {
 #[test]
 fn an_http_uri_is_http_in_any_case_and_something_more() {
     for address in ["http://a", "HTTP://a", "hTTp:// ", "http:///", "http://\u{e9}"] {
-        in_every(SERVER, "HTTP", |pair| {
+        in_every(SERVER_AND_AUTHORITY, "HTTP", |pair| {
             pair.extension(8).value().push(access(oid::access_to_issuers(), uri(address)));
         });
         in_every(ALL, "HTTP", |pair| {
@@ -248,11 +254,12 @@ fn an_http_uri_is_http_in_any_case_and_something_more() {
         });
     }
     for address in NOT_HTTP {
-        in_every(SERVER, "not HTTP", |pair| {
+        in_every(SERVER_AND_AUTHORITY, "not HTTP", |pair| {
             pair.extension(8).value().push(access(oid::access_to_issuers(), uri(address)).breaking(417));
         });
         in_every(ALL, "not HTTP", |pair| {
-            set_extension(pair, 9, Element::sequence(vec![point(vec![full_name(vec![uri(address)])])]));
+            let odd = breaking_in(pair.profile, 424, uri(address));
+            set_extension(pair, 9, Element::sequence(vec![point(vec![full_name(vec![odd])])]));
             pair.extension(9).breaks_at_value(418);
         });
     }
@@ -269,12 +276,9 @@ fn a_uri_is_the_name_form_6() {
         pair.extension(8).breaks_at_value(415);
     });
     in_every(ALL, "any URI serves 415 and 416", |pair| {
-        let mut entries =
-            vec![access(oid::access_by_ocsp(), uri("")), access(oid::access_to_issuers(), uri("x"))];
-        if is_server(pair.profile) {
-            entries[1] = entries[1].clone().breaking(417);
-        }
-        pair.extension(8).set_value(Element::sequence(entries));
+        let ocsp = breaking_in(pair.profile, 423, access(oid::access_by_ocsp(), uri("")));
+        let issuers = breaking_in(pair.profile, 417, access(oid::access_to_issuers(), uri("x")));
+        pair.extension(8).set_value(Element::sequence(vec![ocsp, issuers]));
     });
 }
 
@@ -288,7 +292,7 @@ fn rule_418_looks_at_full_names_only() {
     in_every(ALL, "HTTP in the last of three points", |pair| {
         let points = vec![
             point(vec![]),
-            point(vec![full_name(vec![uri("ldap://a")])]),
+            point(vec![full_name(vec![breaking_in(pair.profile, 424, uri("ldap://a"))])]),
             point(vec![full_name(vec![dns("a.b"), uri("http://a")])]),
         ];
         set_extension(pair, 9, Element::sequence(points));
@@ -297,14 +301,14 @@ fn rule_418_looks_at_full_names_only() {
 
 #[test]
 fn a_dot_at_the_end_of_a_host_name_leaves_an_empty_label() {
-    in_every(ALL, "a dot at the end", |pair| {
+    in_every(END_ENTITY, "a dot at the end", |pair| {
         set_extension(pair, 7, Element::sequence(vec![dns(HOST), dns("www.agency.example.").breaking(414)]));
     });
 }
 
 #[test]
 fn host_names_at_the_edge_of_their_lengths() {
-    in_every(ALL, "253 octets and a label of 63", |pair| {
+    in_every(END_ENTITY, "253 octets and a label of 63", |pair| {
         let long = Element::primitive(0x82, &long_host(253));
         let label = dns(&format!("{}.b", "a".repeat(63)));
         set_extension(
@@ -313,7 +317,7 @@ fn host_names_at_the_edge_of_their_lengths() {
             Element::sequence(vec![dns(HOST), long, label, dns("a.b"), dns("1.2"), dns("a--b.c")]),
         );
     });
-    in_every(ALL, "254 octets and a label of 64", |pair| {
+    in_every(END_ENTITY, "254 octets and a label of 64", |pair| {
         let long = Element::primitive(0x82, &long_host(254)).breaking(414);
         let label = dns(&format!("{}.b", "a".repeat(64))).breaking(414);
         set_extension(pair, 7, Element::sequence(vec![dns(HOST), long, label]));
@@ -339,8 +343,8 @@ fn client_auth_is_excepted_for_servers_alone() {
 }
 
 #[test]
-fn rules_without_a_letter_hold_for_all_three() {
-    in_every(ALL, "412 and 414", |pair| {
+fn rules_without_a_letter_hold_for_all_three_profiles_of_document_01() {
+    in_every(END_ENTITY, "412 and 414", |pair| {
         let names = vec![dns(HOST), mail("a@b").breaking(412), dns("a").breaking(414)];
         set_extension(pair, 7, Element::sequence(names));
     });

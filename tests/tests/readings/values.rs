@@ -109,7 +109,7 @@ fn implicit_tags_are_judged_as_their_type() {
 
 #[test]
 fn bits_past_the_named_ones_are_allowed_and_break_405() {
-    in_every(ALL, "bit 9", |pair| {
+    in_every(END_ENTITY, "bit 9", |pair| {
         pair.extension(4).set_value(named_bits(&[0, 9]));
         pair.extension(4).breaks_at_value(405);
     });
@@ -152,7 +152,7 @@ fn a_qualifier_holds_anything_and_has_any_identifier() {
         pair.extension(6).value().push(policy(oid::any_policy(), vec![odd]));
     });
     in_every(ALL, "an unknown qualifier", |pair| {
-        let odd = qualifier(oid::any_policy(), Element::null()).breaking(411);
+        let odd = breaking_in(pair.profile, 411, qualifier(oid::any_policy(), Element::null()));
         pair.extension(6).value().push(policy(oid::any_policy(), vec![odd]));
     });
 }

@@ -1,20 +1,21 @@
 -- Contents by the tests that are made of single octets.
 --     one-octet       one octet that passes a test
 --     natural-law     an INTEGER from 0
+--     positive-law    an INTEGER from 1
 --     named-law       a named bit list
 --     no-bit          an octet has no bit past its eighth
 --     test-other      a test that asks nothing
 -- Assumes nothing.
 use mathlib.Core.Path.{_≡_, refl, sym, ap, _∙_}
 use mathlib.Core.List.{List}
-use mathlib.Core.Bool.{Bool, false, _&&_, _||_, and-true}
+use mathlib.Core.Bool.{Bool, false, not, _&&_, _||_, and-true}
 use Prim.Native.Nat.{ℕ, zero, suc, _+_, _-_, _/_, _%_, _^_, _≤_, _<_}
 use native.Mathlib.Nat.{div-eq-of-lt, lt-of-lt-of-le}
 use native.Mathlib.Omega.{arith}
 use lib.Pow.{pow-mono}
 use lib.Dec.{eqb, ltb}
 use borrow.Author.Tests.{ne-eqb}
-use Rattle.asn.specs.Grammar.{Test, oneOctet, naturalOk, namedOk}
+use Rattle.asn.specs.Grammar.{Test, oneOctet, naturalOk, positiveOk, namedOk}
 use Rattle.asn.specs.Workings.Table.{testAt}
 use Rattle.octets.specs.Octets.{octetAt, octetsFrom}
 use Rattle.der.specs.Contents.{lastOf, primitiveOk}
@@ -32,6 +33,10 @@ unfolding octetsFrom primitiveOk
 natural-law s body zero first good e g = rw g
 natural-law s body (suc n) first good e g = rw (g, e)
 
+pub positive-law : (s : List ℕ) (body n first : ℕ) (natural : Bool) → first ≡ octetAt s body → natural ≡ naturalOk (octetsFrom s body n)
+    → (natural && not (eqb n 1 && eqb first 0)) ≡ positiveOk (octetsFrom s body n)
+positive-law s body n first natural e g = rw (g, one-octet (λ b. eqb b 0) s body n first e)
+
 pub named-law : (s : List ℕ) (body n unused last : ℕ) (good bit : Bool) → unused ≡ octetAt s body → last ≡ octetAt s (body + (n - 1))
     → bit ≡ eqb (last / 2 ^ unused % 2) 1 → good ≡ primitiveOk 3 (octetsFrom s body n)
     → (good && (eqb n 1 || bit)) ≡ namedOk (octetsFrom s body n)
@@ -47,6 +52,7 @@ pub no-bit : (b k : ℕ) → b < 256 → 8 ≤ k → false ≡ eqb (b / 2 ^ k % 
 no-bit b k h l = rw (div-eq-of-lt (lt-of-lt-of-le h (pow-mono l)))
 
 pub test-other : (t : ℕ) → (t ≡ 2 → ⊥) → (t ≡ 3 → ⊥) → (t ≡ 4 → ⊥) → (t ≡ 5 → ⊥) → (t ≡ 6 → ⊥) → (t ≡ 7 → ⊥) → (t ≡ 8 → ⊥)
-    → (t ≡ 9 → ⊥) → (t ≡ 10 → ⊥) → (t ≡ 11 → ⊥) → testAt t ≡ Test.free
-test-other t a b c d e f g h i j =
-    rw (ne-eqb t 2 a, ne-eqb t 3 b, ne-eqb t 4 c, ne-eqb t 5 d, ne-eqb t 6 e, ne-eqb t 7 f, ne-eqb t 8 g, ne-eqb t 9 h, ne-eqb t 10 i, ne-eqb t 11 j)
+    → (t ≡ 9 → ⊥) → (t ≡ 10 → ⊥) → (t ≡ 11 → ⊥) → (t ≡ 12 → ⊥) → testAt t ≡ Test.free
+test-other t a b c d e f g h i j k =
+    let no = ne-eqb t in
+    rw (no 2 a, no 3 b, no 4 c, no 5 d, no 6 e, no 7 f, no 8 g, no 9 h, no 10 i, no 11 j, no 12 k)

@@ -14,12 +14,13 @@ use Rattle.asn.specs.Workings.Choosing.{Alternative, Field}
 use Rattle.asn.specs.Workings.Choosing.Alternative.{nobody, holding}
 use Rattle.asn.specs.Workings.Choosing.Field.{nowhere, here}
 use Rattle.asn.specs.declared.fitting.Found.{Found}
-use Rattle.asn.specs.Module.{any, booleanTrue, integer, natural, bitString, namedBits, octetString, objectIdentifier, sequenceOf, implicit}
+use Rattle.asn.specs.Module.{any, booleanTrue, integer, natural, positive, bitString, namedBits, octetString, objectIdentifier, sequenceOf, implicit}
 use Rattle.asn.specs.Module.{explicit, free, algorithmIdentifier, attributeTypeAndValue, relativeDistinguishedName, name, time}
 use Rattle.asn.specs.Module.{validity, subjectPublicKeyInfo, extension, extensions, version, tbsCertificate, certificate, generalName}
 use Rattle.asn.specs.Module.{generalNames, authorityKeyIdentifier, basicConstraints, subjectKeyIdentifier, keyUsage, extKeyUsage}
 use Rattle.asn.specs.Module.{policyQualifierInfo, policyInformation, certificatePolicies, accessDescription, authorityInfoAccess}
-use Rattle.asn.specs.Module.{distributionPointName, distributionPoint, cRLDistributionPoints, ocspNoCheck, judged}
+use Rattle.asn.specs.Module.{distributionPointName, distributionPoint, cRLDistributionPoints, ocspNoCheck, generalSubtree, generalSubtrees}
+use Rattle.asn.specs.Module.{nameConstraints, judged}
 
 -- the types that have rows of their own, in the order of the rows
 unfoldable pub types : List Form
@@ -36,6 +37,7 @@ types =
     ∷ authorityInfoAccess
     ∷ cRLDistributionPoints
     ∷ ocspNoCheck
+    ∷ nameConstraints
     ∷ tbsCertificate
     ∷ algorithmIdentifier
     ∷ bitString
@@ -72,6 +74,11 @@ types =
     ∷ implicit 1 namedBits
     ∷ implicit 2 generalNames
     ∷ distributionPointName
+    ∷ implicit 0 generalSubtrees
+    ∷ implicit 1 generalSubtrees
+    ∷ generalSubtree
+    ∷ implicit 0 positive
+    ∷ implicit 1 natural
     ∷ []
 
 -- a row for each alternative of a type, and one for the end
@@ -132,11 +139,12 @@ testAt n =
     (cond (eqb n 9) Test.nothing
     (cond (eqb n 10) Test.utc
     (cond (eqb n 11) Test.generalized
-    Test.free)))))))))
+    (cond (eqb n 12) Test.positive
+    Test.free))))))))))
 
 -- the tests' numbers are below this
 abbrev pub testCount : ℕ
-testCount = 12
+testCount = 13
 
 -- what a row says of the contents: below `testCount` the number of a test, and from there the row of the first field; 128 marks a SET
 abbrev pub insideOf : ℕ → Inside

@@ -1,6 +1,6 @@
 -- Extensions and their slots.
 --     slot-three, slot-other             the slot of an identifier of three octets, and of any other
---     slot-below                         a slot is below 11
+--     slot-below                         a slot is one of the table's, or 0
 --     same-slot, slot-same               in a slot other than 0 the identifiers are the same, and the same identifiers are in one slot
 --     listed-at                          an identifier of the table, by its slot
 --     seen-earlier                       361 looks at the extensions before one
@@ -64,12 +64,13 @@ three a b d =
           a b d 32,
       three-same a b d 17,
       three-same a b d 31,
+      three-same a b d 30,
     )
     (go (eqb a 0x55 && eqb b 0x1D))
   where
     go : (x : Bool)
         → cond (x && eqb d 35) 1 (cond (x && eqb d 19) 2 (cond (x && eqb d 14) 3
-        (cond (x && eqb d 15) 4 (cond (x && eqb d 37) 5 (cond (x && eqb d 32) 6 (cond (x && eqb d 17) 7 (cond (x && eqb d 31) 9 0))))))) ≡
+        (cond (x && eqb d 15) 4 (cond (x && eqb d 37) 5 (cond (x && eqb d 32) 6 (cond (x && eqb d 17) 7 (cond (x && eqb d 31) 9 (cond (x && eqb d 30) 11 0)))))))) ≡
         cond x (slotBy d) 0
     go true = refl
     go false = refl
@@ -84,7 +85,7 @@ slot-three s body n a b d l p q r =
 
 other : (c : List ℕ) → (length c ≡ 3 → ⊥) → slotFor c ≡ cond (sameBy exactly c accessIdentifier) 8 (cond (sameBy exactly c nocheck) 10 0)
 unfolding slotFor oid subidentifiers subidentifier sevens
-other c h = rw (no 35, no 19, no 14, no 15, no 37, no 32, no 17, no 31)
+other c h = rw (no 35, no 19, no 14, no 15, no 37, no 32, no 17, no 31, no 30)
   where
     no : (n : ℕ) → sameBy exactly c (short n) ≡ false
     no n = same-length exactly c (short n) h
@@ -94,7 +95,7 @@ pub slot-other : (s : List ℕ) (body n : ℕ) (x y : Bool) → (n ≡ 3 → ⊥
     → y ≡ sameBy exactly (octetsFrom s body n) nocheck → slotFor (octetsFrom s body n) ≡ cond x 8 (cond y 10 0)
 slot-other s body n x y h p q = rw (p, q) (other (octetsFrom s body n) (λ e. h (sym (octets-long s body n) ∙ e)))
 
--- ---- a slot is below 11
+-- ---- a slot is one of the table's, or 0
 
 position-below : (k : ℕ) (is : List (List ℕ)) (c : List ℕ) → 1 ≤ k → positionFrom k is c < k + length is
 position-below k [] c h = omega arith

@@ -22,4 +22,5 @@ slotBy n =
     (cond (eqb n 37) 5
     (cond (eqb n 32) 6
     (cond (eqb n 17) 7
-    (cond (eqb n 31) 9 0)))))))
+    (cond (eqb n 31) 9
+    (cond (eqb n 30) 11 0))))))))

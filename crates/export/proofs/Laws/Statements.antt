@@ -1,8 +1,9 @@
 -- Statements about answers as numbers: a caller takes them apart again, and loses nothing.
 --     lint-back            the values of the linter's answer are read off its number
 --     write-back           and those of the writer's
+--     one-lint, one-write  any two answers that a contract here allows coincide (S11)
 -- Assumes nothing.
-use mathlib.Core.Path.{_≡_, refl, sym, subst}
+use mathlib.Core.Path.{_≡_, refl, sym, subst, _∙_}
 use mathlib.Core.List.{List}
 use mathlib.Core.Logic.{_≢_}
 use Prim.Native.Nat.{ℕ, _+_, _*_, _^_, _/_, _%_, _<_}
@@ -15,11 +16,11 @@ use Rattle.refusals.specs.declared.table.Values.{Values}
 use Rattle.refusals.proofs.Laws.Table.{Tabled}
 use Rattle.lint.specs.Refusals.{refusalValues, answerValues}
 use Rattle.lint.specs.Values.{lintValues}
-use Rattle.lint.specs.Answers.{answerOf}
+use Rattle.lint.specs.Answers.{answerOf, roomOf}
 use Rattle.lint.proofs.Laws.Bounds.{refusal-low, count-fits}
 use Rattle.lint.proofs.Laws.Values.{refusal-tabled, lint-values}
 use Rattle.writer.specs.Values.{notWrittenValues, placingValues, writeValues}
-use Rattle.writer.specs.Answers.{writeAnswer}
+use Rattle.writer.specs.Answers.{writeAnswer, writeRoom}
 use Rattle.writer.proofs.Laws.Answers.{taken-only, refused-nowhere}
 use Rattle.writer.proofs.Laws.Values.{not-written-tabled, write-values}
 use Rattle.lint.specs.declared.linting.Answer as Linting
@@ -85,3 +86,19 @@ write-back number profile certificate issuer room l =
     go : (answer : Writing.Placing) → writeAnswer number profile certificate issuer room ≡ answer → Back (placingValues answer)
     go (Written.Blocks count) e = count-back count (omega (arith, taken-only number profile certificate issuer room count e .fitting))
     go (Written.Refused r) e = tabled-back (notWrittenValues r) (not-written-tabled r) (omega (arith, refused-nowhere r))
+
+-- ---- one answer
+
+module _ (certificate issuer room : List ℕ) (number profile : ℕ) where
+  -- what the contracts allow: a number, and the room after the call
+  abbrev LintedAs : ℕ → List ℕ → Type 0
+  LintedAs n after = (n ≡ packedValues (lintValues certificate issuer profile room)) × (after ≡ roomOf certificate issuer profile room)
+
+  abbrev PlacedAs : ℕ → List ℕ → Type 0
+  PlacedAs n after = (n ≡ packedValues (writeValues number profile certificate issuer room)) × (after ≡ writeRoom number profile certificate issuer room)
+
+  pub one-lint : (r r′ : ℕ) (last last′ : List ℕ) → LintedAs r last → LintedAs r′ last′ → (r ≡ r′) × (last ≡ last′)
+  one-lint r r′ last last′ a b = (a .0 ∙ sym (b .0), a .1 ∙ sym (b .1))
+
+  pub one-write : (r r′ : ℕ) (last last′ : List ℕ) → PlacedAs r last → PlacedAs r′ last′ → (r ≡ r′) × (last ≡ last′)
+  one-write r r′ last last′ a b = (a .0 ∙ sym (b .0), a .1 ∙ sym (b .1))

@@ -1,6 +1,7 @@
 -- A number against a power of two.
 --     below-short, below-even, below-long     by its octets
 --     bits-some, bits-none                    how many bits it has
+--     not-below                               a number that is not below another
 -- Assumes nothing.
 use mathlib.Core.Path.{_≡_, refl, sym, ap, subst, _∙_}
 use mathlib.Core.List.{List}
@@ -53,7 +54,7 @@ module _ (s : List ℕ) (body end p k : ℕ) (h : Octets s) (e : p ≡ leadOf s 
       (sym (le-ltb (octetAt s p * 2 ^ (8 * (end - (p + 1))) + number s (p + 1) end) (2 ^ k)
       (omega (arith, m, mul-le-mul-right (2 ^ (8 * (end - (p + 1)))) (leads s body end p e .above i)))))
 
-not-below : (v m : ℕ) → not (ltb v m) ≡ leb m v
+pub not-below : (v m : ℕ) → not (ltb v m) ≡ leb m v
 not-below v m = go (ltb v m) refl
   where
     go : (t : Bool) → ltb v m ≡ t → not t ≡ leb m v

@@ -3,12 +3,13 @@
 --     part-same                 a stretch by equal numbers
 --     part-join, part-meet      two stretches that meet
 --     part-cut                  a stretch that is two lists, cut where they meet
+--     part-first                the first octets of a stretch
 -- Assumes nothing.
 use mathlib.Core.Path.{_≡_, refl, sym, ap, _∙_}
 use mathlib.Core.List.{List, [], _∷_, _++_}
 use Prim.Native.Nat.{ℕ, zero, suc, _+_, _-_, _≤_}
 use native.Mathlib.Omega.{arith}
-use lib.ListN.{length, getD, drop}
+use lib.ListN.{length, getD, take, drop}
 use Rattle.octets.specs.Octets.{octetAt, octetsFrom}
 
 pub head-same : (x y : ℕ) (xs ys : List ℕ) → x ∷ xs ≡ y ∷ ys → x ≡ y
@@ -47,3 +48,9 @@ part-cut s at (suc n) (x ∷ xs) ys e =
     let p : at + suc (length xs) ≡ at + 1 + length xs = omega arith in
     let q : suc n - suc (length xs) ≡ n - length xs = omega arith in
     ((λ i. head-same _ _ _ _ e i ∷ r .0 i), part-same s _ _ _ _ p q ∙ r .1)
+
+pub part-first : (s : List ℕ) (at m n : ℕ) → m ≤ n → take m (octetsFrom s at n) ≡ octetsFrom s at m
+unfolding octetsFrom
+part-first s at zero n l = refl
+part-first s at (suc m) zero l = absurd (omega arith)
+part-first s at (suc m) (suc n) l = ap (λ (bs : List ℕ). octetAt s at ∷ bs) (part-first s (at + 1) m n (omega arith))

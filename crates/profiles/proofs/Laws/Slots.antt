@@ -1,4 +1,4 @@
--- The table of rules and document 01's table of extensions ("Rules on extensions") agree on rules 301 to 350.
+-- The table of rules and document 01's table of extensions ("Rules on extensions") agree on rules 301 to 351.
 --     missing-judged                         300+s
 --     criticality-judged, value-judged       320+s and 340+s
 -- Assumes nothing.

@@ -59,6 +59,7 @@ use Rattle.rules_values.specs.Policies.{policyRows}
 use Rattle.rules_values.specs.Hosts.{hostRows}
 use Rattle.rules_values.specs.Access.{accessRows}
 use Rattle.rules_values.specs.Points.{pointRows}
+use Rattle.rules_values.specs.Authority.{authorityRows}
 use Rattle.rules_values.specs.Rules.{valueRows}
 use Rattle.rules_values.proofs.Laws.Rows.{values-ok}
 
@@ -66,7 +67,7 @@ rules-ascend : (p : Profile) (f : Case) → ascend 101 ruleLimit (allRules p f) 
 unfolding
     ascend allRules fieldRows versionRows signatureRows validityRows subjectRows countryRows organizationRows nameRows keyRows algorithmRows
     rsaRows extensionRows rowsOver numbersFrom identifierRows valueRows keyIdentifierRows usageRows purposeRows policyRows hostRows accessRows
-    pointRows
+    pointRows authorityRows
 rules-ascend p f = refl
 
 module _ (p : Profile) (s : List ℕ) (k : Known) where

@@ -1,4 +1,4 @@
--- Rules 204 to 207 by the key that is read of the bits.
+-- Rules 204 to 208 by the key that is read of the bits.
 --     rsa-noted     what is put for that key is what is put for the bits
 -- Assumes nothing.
 use mathlib.Core.Path.{_≡_, subst}
@@ -12,7 +12,7 @@ use Rattle.rules_key.specs.declared.bits.RsaKey.{RsaKey}
 use Rattle.octets.specs.Numbers.{numberOf}
 use Rattle.der.specs.Contents.{contentsOf}
 use Rattle.der.specs.declared.header.Head.{Head}
-use Rattle.numbers.specs.Numbers.{modulusOk, exponentOk}
+use Rattle.numbers.specs.Numbers.{modulusOk, longModulus, exponentOk}
 use Rattle.primes.specs.Primes.{primesBelow, freeOf}
 use Rattle.profiles.specs.declared.fields.Profile.{Profile}
 use Rattle.certificate.specs.declared.key.Key.{Key}
@@ -30,6 +30,7 @@ module _ (p : Profile) (s : List ℕ) (k : Key) where
       ∷ 205 ⦂ brokenAt ((isRsa (k .kind) && key .kept) && not (modulusOk (number (key .modulus)))) (key .modulus)
       ∷ 206 ⦂ brokenAt ((isRsa (k .kind) && key .kept) && not (exponentOk (number (key .exponent)))) (key .exponent)
       ∷ 207 ⦂ brokenAt ((isRsa (k .kind) && key .kept) && not (freeOf (primesBelow 752) (number (key .modulus)))) (key .modulus)
+      ∷ 208 ⦂ brokenAt ((isRsa (k .kind) && key .kept) && not (longModulus (number (key .modulus)))) (key .modulus)
       ∷ []
 
   pub rsa-noted :

@@ -1,4 +1,4 @@
--- Rules 201 to 207: where they are broken.
+-- Rules 201 to 208: where they are broken.
 --     key-ok        each of them at elements of the certificate, in their order
 -- Assumes nothing.
 use mathlib.Core.Path.{_≡_, refl, sym, ap, _∙_}
@@ -25,7 +25,7 @@ use Rattle.der.specs.declared.walk.Soundness.the-variants.{Sound, Unsound, Unor
 use Rattle.der.proofs.Laws.Header.{head-narrow}
 use Rattle.asn.specs.Answers.{certificateVerdict}
 use Rattle.asn.specs.declared.fitting.Verdict.the-variants.{Fits}
-use Rattle.numbers.specs.Numbers.{modulusOk, exponentOk}
+use Rattle.numbers.specs.Numbers.{modulusOk, longModulus, exponentOk}
 use Rattle.primes.specs.Primes.{primesBelow, freeOf}
 use Rattle.profiles.specs.declared.fields.Profile.{Profile}
 use Rattle.certificate.specs.Issuer.{Known}
@@ -104,7 +104,7 @@ module _ (s : List ℕ) (e : certificateVerdict s ≡ Fits) where
     exponent-element : Element s (exponentOf s bits)
     exponent-element = in-sequence t _ (behind here)
 
-  -- ---- rules 201 to 207
+  -- ---- rules 201 to 208
 
   -- a rule on the modulus, and one on the exponent
   modulus-ok : {ps : List ℕ} (rule : ℕ) (bad : Bool) → RowOk (Element s) (rule for ps ⦂ brokenAt (judgesNumbers s (subjectKey s) && bad) (modulusOf s bits))
@@ -125,4 +125,5 @@ module _ (s : List ℕ) (e : certificateVerdict s ≡ Fits) where
       (more-rows (at-ok 204 _ bits (λ t. bits-element s e))
       (more-rows (modulus-ok 205 (not (modulusOk (modulus s (subjectKey s)))))
       (more-rows (exponent-ok 206 (not (exponentOk (exponent s (subjectKey s)))))
-      (more-rows (modulus-ok 207 (not (freeOf (primesBelow 752) (modulus s (subjectKey s))))) no-rows))))))
+      (more-rows (modulus-ok 207 (not (freeOf (primesBelow 752) (modulus s (subjectKey s)))))
+      (more-rows (modulus-ok 208 (not (longModulus (modulus s (subjectKey s))))) no-rows)))))))

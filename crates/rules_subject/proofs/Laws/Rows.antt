@@ -1,4 +1,4 @@
--- Rules 112 to 121: where they are broken.
+-- Rules 112 to 122: where they are broken.
 --     subject-ok     each of them at elements of the certificate, in their order
 -- A name is a SEQUENCE OF SET OF SEQUENCE by the grammar. Assumes nothing.
 use mathlib.Core.Path.{_≡_, refl}
@@ -72,7 +72,7 @@ module _ (s : List ℕ) (e : certificateVerdict s ≡ Fits) where
   attributes-apart : Apart (attributesIn s subject)
   attributes-apart = sets-apart s (subject .end) (subject .body)
 
-  -- ---- rules 112 to 121
+  -- ---- rules 112 to 122
 
   each : {ps : List ℕ} (rule : ℕ) (bad : Head → Bool) → RowOk (Element s) (rule for ps ⦂ filter bad (attributesIn s subject))
   each rule bad = each-ok rule bad attributes-apart attribute
@@ -108,4 +108,5 @@ module _ (s : List ℕ) (e : certificateVerdict s ≡ Fits) where
       (more-rows (one 118 _)
       (more-rows (each 119 _)
       (more-rows (cn-ok (standingOf (caseIn s k) 7))
-      (more-rows (each-ok 121 _ (children-apart s (subject .end) (subject .body)) in-name) no-rows)))))))))
+      (more-rows (each-ok 121 _ (children-apart s (subject .end) (subject .body)) in-name)
+      (more-rows (each 122 _) no-rows))))))))))

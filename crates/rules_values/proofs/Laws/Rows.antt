@@ -1,4 +1,4 @@
--- Rules 401 to 419: where they are broken.
+-- Rules 401 to 424: where they are broken.
 --     values-ok     each of them at elements of the certificate, in their order
 -- Assumes nothing.
 use mathlib.Core.Path.{_≡_, refl, subst}
@@ -12,7 +12,8 @@ use Rattle.rules_values.specs.Purposes.{purposeRows}
 use Rattle.rules_values.specs.Policies.{policyRows}
 use Rattle.rules_values.specs.Hosts.{hostRows}
 use Rattle.rules_values.specs.Access.{accessRows}
-use Rattle.rules_values.specs.Points.{pointRows}
+use Rattle.rules_values.specs.Points.{fullNamesIn, pointRows}
+use Rattle.rules_values.specs.Authority.{authorityRows}
 use Rattle.rules_values.specs.Rules.{valueRows}
 use Rattle.der.specs.Members.{membersIn}
 use Rattle.der.specs.declared.header.Head.{Head}
@@ -33,7 +34,7 @@ use Rattle.facts.proofs.Laws.Members.{AllElements, AllMembers, members-of, list
 use Rattle.facts.proofs.Laws.Slots.{GoodOk, StandingOk, standing-ok}
 use Rattle.forms.specs.Lists.{itemsWithin}
 use Rattle.forms.specs.Values.{whereGood}
-use Rattle.forms.specs.declared.nests.Nest.the-variants.{Policy}
+use Rattle.forms.specs.declared.nests.Nest.the-variants.{Policy, Point}
 use Rattle.forms.proofs.Laws.Lists.{items-in}
 use Rattle.report.specs.Forms.{filter}
 use Rattle.report.specs.Rows.{_for_⦂_, brokenAt}
@@ -42,6 +43,7 @@ use Rattle.report.proofs.Terms.Rows.RowsOk.{no-rows, more-rows}
 use Rattle.report.proofs.Laws.Order.{children-apart}
 use Rattle.report.proofs.Laws.Rows.{none-ok, at-ok, each-ok, ok-join}
 use Rattle.rules_values.proofs.Laws.Qualifiers.{qualifiers-of, qualifiers-apart}
+use Rattle.rules_values.proofs.Laws.FullNames.{full-names-of, full-names-apart}
 
 -- where the value is not good, nothing breaks the rule
 good-ok : (s : List ℕ) (k : ℕ) {ps : List ℕ} (rule : ℕ) (x : Standing) (f : Extension → Head → List Head) → StandingOk s k x
@@ -84,7 +86,16 @@ module _ (s : List ℕ) (e : certificateVerdict s ≡ Fits) (known : Known) wher
       let fit = listed-fit policyInformation s v (whole 6 (omega arith) (omega arith) policyInformation refl x v g) (q .0) (q .1) in
       qualifiers-of s (q .0) fit (items 6 (omega arith) (omega arith) policyInformation refl x v g (q .0) (q .1)) h (q .2)
 
-  -- ---- rules 401 to 419
+  -- "each" over the names of the points' full names
+  full-name : (x : Extension) (v : Head) → GoodOk s 9 x v → AllElements s (fullNamesIn s v)
+  unfolding valueOf judged cRLDistributionPoints distributionPoint
+  full-name x v g h i =
+      let q = items-in Point s (v .body) (v .end) h i in
+      let points = items 9 (omega arith) (omega arith) distributionPoint refl x v g in
+      let fit = listed-fit distributionPoint s v (whole 9 (omega arith) (omega arith) distributionPoint refl x v g) (q .0) (q .1) in
+      full-names-of s (q .0) (members-of 0x30 _ s (q .0) refl refl fit (points (q .0) (q .1))) h (q .2)
+
+  -- ---- rules 401 to 424
 
   module _ (p : Profile) where
     identifiers-ok : (key : KeyIdentifier) → RowsOk (Element s) (keyIdentifierRows s key (standing 1) (standing 2) (standing 3))
@@ -125,8 +136,18 @@ module _ (s : List ℕ) (e : certificateVerdict s ≡ Fits) (known : Known) wher
     unfolding pointRows valueOf judged cRLDistributionPoints
     points-ok = more-rows (at 9 (omega arith) (omega arith) 418 _) (more-rows (each 9 (omega arith) (omega arith) distributionPoint refl 419 _) no-rows)
 
+    authority-ok : RowsOk (Element s) (authorityRows s (standing 2) (standing 4) (standing 8) (standing 9))
+    unfolding authorityRows valueOf judged authorityInfoAccess
+    authority-ok =
+        more-rows (at 2 (omega arith) (omega arith) 421 _)
+        (more-rows (at 4 (omega arith) (omega arith) 422 _)
+        (more-rows (each 8 (omega arith) (omega arith) accessDescription refl 423 _)
+        (more-rows (good-ok s 9 424 (standing 9) _ (standing-ok s e 9 (omega arith) known (omega arith))
+        (λ x v g. each-ok 424 _ (full-names-apart s (v .end) (v .body)) (full-name x v g)))
+        no-rows)))
+
     pub values-ok : RowsOk (Element s) (valueRows p (caseIn s known))
     unfolding valueRows
     values-ok =
         ok-join (identifiers-ok _)
-        (ok-join (usage-ok _) (ok-join purposes-ok (ok-join policies-ok (ok-join hosts-ok (ok-join access-ok points-ok)))))
+        (ok-join (usage-ok _) (ok-join purposes-ok (ok-join policies-ok (ok-join hosts-ok (ok-join access-ok (ok-join points-ok authority-ok))))))

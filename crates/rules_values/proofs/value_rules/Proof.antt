@@ -10,7 +10,8 @@ use Rattle.rules_values.proofs.value_rules.Tie as tie
 returns : tie.Need-returns
 unfolding valueRows numbersFrom
 returns c =
-    let seventh = c .before .before in
+    let eighth = c .before .before in
+    let seventh = eighth .before .before .before .before .before .before .before .before in
     let sixth = seventh .before .before .before .before .before in
     let fifth = sixth .before .before .before .before .before in
     let fourth = fifth .before .before .before .before .before in
@@ -25,7 +26,8 @@ returns c =
     ⟫ fourth .policy-rules .ensures
     ⟫ fifth .host-rules .ensures
     ⟫ sixth .access-rules .ensures
-    ⟫ seventh .point-rules .ensures)
+    ⟫ seventh .point-rules .ensures
+    ⟫ eighth .authority-rules .ensures)
 
 pub value-rules-spec : {M : Type 1} → statement M
 value-rules-spec =
@@ -33,4 +35,5 @@ value-rules-spec =
     (tie.spec (λ c κs. tt) (λ c κs. tt) (λ c κs. tt) (λ c. search needs) (λ c. search needs) (λ c. search needs) (λ c κs. tt)
     (λ c. search needs) (λ c κs. tt) (λ c. search needs) (λ c κs. tt) (λ c. search needs) (λ c κs. tt) (λ c. search needs) (λ c κs. tt)
     (λ c. search needs) (λ c κs. tt) (λ c. search needs) (λ c κs. tt)
+    (λ c. search needs) (λ c. search needs) (λ c. search needs) (λ c. search needs) (λ c κs. tt)
     (λ c. room-kept (returns c .put)) returns)

@@ -1,5 +1,5 @@
 -- The bits of a named BIT STRING, octet by octet.
---     signed-law                             bit 0
+--     first-bit                              one of the first eight bits
 --     octet-bits                             an octet has a bit that is set unless it is 0
 --     first-bits                             the first octet's bits that may not be set, one by one
 --     bits-done, bits-here, bits-later       any bit set in the octets of a stretch from its kth on
@@ -175,12 +175,15 @@ more-octets s body (suc (suc n)) h =
     let f : suc (suc n) - 2 ≡ n = omega arith in
     rw (e, f)
 
-pub signed-law : (s : List ℕ) (body n b : ℕ) → b ≡ octetAt s (body + 1)
-    → (ltb 1 n && eqb (b / 128 % 2) 1) ≡ bitAt (bitOctets (octetsFrom s body n)) 0
+pub first-bit : (k : ℕ) → k < 8 → (s : List ℕ) (body n b : ℕ) → b ≡ octetAt s (body + 1)
+    → (ltb 1 n && eqb (b / 2 ^ (7 - k) % 2) 1) ≡ bitAt (bitOctets (octetsFrom s body n)) k
 unfolding octetsFrom
-signed-law s body zero b e = refl
-signed-law s body (suc zero) b e = refl
-signed-law s body (suc (suc n)) b e = rw (lt-ltb 1 (suc (suc n)) (omega arith), e)
+first-bit k h s body zero b e = sym (no-bit k)
+first-bit k h s body (suc zero) b e = sym (no-bit k)
+first-bit k h s body (suc (suc n)) b e =
+    let q : k / 8 ≡ 0 = omega arith in
+    let r : k % 8 ≡ k = omega arith in
+    rw (lt-ltb 1 (suc (suc n)) (omega arith), e, q, r)
 
 pub other-none : (s : List ℕ) (body n allowed : ℕ) → n < 2 → false ≡ otherBits (bitOctets (octetsFrom s body n)) (bitsIn allowed)
 unfolding otherBits anyBelow

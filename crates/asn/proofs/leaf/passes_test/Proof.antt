@@ -42,17 +42,20 @@ returns-10 : tie.Need-returns-10
 returns-10 c = rw (c .before .match .keys10) (c .time-ok2 .ensures)
 
 returns-11 : tie.Need-returns-11
-returns-11 c =
+returns-11 c = rw (c .before .match .keys11) (c .positive-ok .ensures)
+
+returns-12 : tie.Need-returns-12
+returns-12 c =
     let r = c .match .rest in
     let a = c .before .before .args in
     let other =
-    test-other (a .test) (r .0 .0 .0 .0 .0 .0 .0 .0 .0 .1) (r .0 .0 .0 .0 .0 .0 .0 .0 .1) (r .0 .0 .0 .0 .0 .0 .0 .1) (r .0 .0 .0 .0 .0 .0 .1)
-    (r .0 .0 .0 .0 .0 .1) (r .0 .0 .0 .0 .1) (r .0 .0 .0 .1) (r .0 .0 .1) (r .0 .1) (r .1) in
+    test-other (a .test) (r .0 .0 .0 .0 .0 .0 .0 .0 .0 .0 .1) (r .0 .0 .0 .0 .0 .0 .0 .0 .0 .1) (r .0 .0 .0 .0 .0 .0 .0 .0 .1)
+    (r .0 .0 .0 .0 .0 .0 .0 .1) (r .0 .0 .0 .0 .0 .0 .1) (r .0 .0 .0 .0 .0 .1) (r .0 .0 .0 .0 .1) (r .0 .0 .0 .1) (r .0 .0 .1) (r .0 .1) (r .1) in
     sym (ap (λ (t : Test). passes t (a .tag) (octetsFrom (a .s .now) (a .body) (a .n))) other)
 
 pub passes-test-spec : {M : Type 1} → statement M
 passes-test-spec =
     tie.close
     (tie.spec (λ c κs. tt) (λ c κs. tt) (λ c κs. tt) (λ c κs. tt) (λ c κs. tt) (λ c κs. tt) (λ c κs. tt) (λ c κs. tt)
-    (λ c κs. tt) (λ c κs. tt) returns returns-2 returns-3 returns-4 returns-5 returns-6 returns-7 returns-8 returns-9
-    returns-10 returns-11)
+    (λ c κs. tt) (λ c κs. tt) (λ c κs. tt) returns returns-2 returns-3 returns-4 returns-5 returns-6 returns-7 returns-8 returns-9
+    returns-10 returns-11 returns-12)

@@ -18,7 +18,7 @@ abbrev μ-loop : tie.MeasureT-loop
 loop-holds : tie.Need-loop-holds Inv-loop μ-loop
 loop-holds c = seen-none _ _ _ _ (c .missing .ensures)
 
--- the table has 11 slots
+-- the table has 12 slots, with 0
 below : (c : tie.After-slot-of Inv-loop μ-loop) → c .slot-of .result < slotCount
 below c = rw (c .slot-of .ensures) (slot-below _)
 

@@ -18,7 +18,11 @@ returns-3 c = rw (c .match .keys3)
 
 returns-4 : tie.Need-returns-4
 unfolding askedOf
-returns-4 c = let r = c .match .rest in rw (ne-eqb _ 1 (r .0 .0 .1), ne-eqb _ 2 (r .0 .1), ne-eqb _ 3 (r .1))
+returns-4 c = rw (c .match .keys4)
+
+returns-5 : tie.Need-returns-5
+unfolding askedOf
+returns-5 c = let r = c .match .rest in rw (ne-eqb _ 1 (r .0 .0 .0 .1), ne-eqb _ 2 (r .0 .0 .1), ne-eqb _ 3 (r .0 .1), ne-eqb _ 4 (r .1))
 
 pub profile-of-spec : {M : Type 1} → statement M
-profile-of-spec = tie.close (tie.spec returns returns-2 returns-3 returns-4)
+profile-of-spec = tie.close (tie.spec returns returns-2 returns-3 returns-4 returns-5)

@@ -17,7 +17,7 @@ returns c =
     let days = length .before in
     let order = days .before in
     let end = order .before in
-    rw (← days .max-days .ensures, ← length .within-days .ensures, ← order .reversed .ensures, ← end .early-general2 .ensures)
+    rw (← days .limit-of .ensures, ← length .is-too-long .ensures, ← order .reversed .ensures, ← end .early-general2 .ensures)
     (rw (← end .before .early-general .ensures)
     (same-rule (first .judge .ensures) (second .judge2 .ensures) ⟫ third .judge3 .ensures ⟫ fourth .judge4 .ensures))
 
