@@ -1,5 +1,5 @@
 -- How an extension of document 01's table stands in a certificate ("Rules on extensions"): "other rules see the first only", and its value is good if it is
--- "exactly one sound element of its RFC ASN.1". All rules on extensions, 300+s to 419 and 120, go by this.
+-- "exactly one sound element of its RFC ASN.1". All rules on extensions, 300+s to 424 and 120, go by this.
 use mathlib.Core.List.{List, [], _∷_, map}
 use mathlib.Core.Bool.{cond}
 use Prim.Native.Nat.{ℕ, _-_}

@@ -27,10 +27,10 @@ hasBits k v = leb (2 ^ (k - 1)) v && ltb v (2 ^ k)
 abbrev pub modulusOk : ℕ → Bool
 modulusOk v = hasBits 2048 v || (hasBits 3072 v || hasBits 4096 v)
 
--- 208: "modulus at least 2048 bits" (document 02, CR 1): from 2 ^ 2047 on
-abbrev pub longModulus : ℕ → Bool
-longModulus v = leb (2 ^ (2048 - 1)) v
-
 -- 206: "exponent odd, from 65,537 to below 2^256−1"
 abbrev pub exponentOk : ℕ → Bool
 exponentOk v = isOdd v && (leb 65537 v && ltb v (2 ^ 256 - 1))
+
+-- 208: "modulus at least 2048 bits" (document 02, CR 1): from 2 ^ 2047 on
+abbrev pub longModulus : ℕ → Bool
+longModulus v = leb (2 ^ (2048 - 1)) v

@@ -17,7 +17,7 @@ use Rattle.report.specs.Rows.{Row, _for_⦂_, brokenAt}
 abbrev pub rule204 : List ℕ → Key → List Head
 rule204 s k = brokenAt (isRsa (k .kind) && not (rsaBits s (k .bits))) (k .bits)
 
--- "else 205 to 207 are not judged"
+-- "else 205 to 207 are not judged"; 208 "else as 205" (CR 1)
 abbrev pub judgesNumbers : List ℕ → Key → Bool
 judgesNumbers s k = isRsa (k .kind) && rsaBits s (k .bits)
 

@@ -1,4 +1,4 @@
--- An RSA key, read once for rules 204 to 207.
+-- An RSA key, read once for rules 204 to 208.
 -- How the code goes about it: named by contracts of functions that no other crate can call, and by nothing else of `specs/`.
 use mathlib.Core.List.{List}
 use Prim.Native.Nat.{ℕ}
