@@ -143,7 +143,7 @@ fn starts_of(year: i64) -> Vec<Moment> {
 #[test]
 fn every_kind_of_year_has_its_last_permitted_second() {
     let mut linters = Linters::of("validities at the last permitted second, in years of every kind");
-    let years = [0..=4, 96..=100, 396..=400, 1948..=1950, 2036..=2040, 2048..=2050, 2090..=2100, 9986..=9989];
+    let years = [0..=4, 94..=101, 394..=401, 1946..=1952, 2018..=2050, 2090..=2101, 9984..=9989];
     for start in years.into_iter().flatten().flat_map(starts_of) {
         for profile in ALL {
             let last = last_permitted_second(*profile, start);

@@ -1,7 +1,8 @@
 -- Rules 110 and 111 to the second (document 02, CR 2), in every profile.
---     broken-from         111 is broken exactly by a notAfter at which the limit is over, or later
---     reversed-alone      a validity whose times stand the wrong way round breaks 110 and not 111
---     equal-keeps         one whose times are the same breaks neither
+--     not-later          a notAfter that is not after notBefore is within every limit
+--     broken-from        111 is broken exactly by a notAfter at which the limit is over, or later
+--     reversed-alone     a validity whose times stand the wrong way round breaks 110 and not 111
+--     equal-keeps        one whose times are the same breaks neither
 -- Assumes nothing.
 use mathlib.Core.Path.{_≡_, refl, ap, _∙_}
 use mathlib.Core.Bool.{true, not}
@@ -31,6 +32,8 @@ abbrev pub limitEnds : Time → Limit → ℕ
 limitEnds start (Days days) = momentOf start + 86400 * days
 limitEnds start (Years years) = secondsOf (anniversaryOf years (dateOf start))
 
+-- ---- limits
+
 within-end : (v : Validity) (limit : Limit) → Positive limit
     → withinLimit v limit ≡ ltb (momentOf (v .«not_after»)) (limitEnds (v .«not_before») limit)
 within-end v (Days days) h = days-end v days h
@@ -41,27 +44,30 @@ unfolding momentOf
 starts-within start (Days days) h = omega arith
 starts-within start (Years years) h = anniversary-later years (dateOf start) h
 
+pub not-later : (v : Validity) (limit : Limit) → Positive limit → momentOf (v .«not_after») ≤ momentOf (v .«not_before») → withinLimit v limit ≡ true
+not-later v limit some h =
+    let k = starts-within (v .«not_before») limit some in
+    within-end v limit some ∙ lt-ltb (momentOf (v .«not_after»)) (limitEnds (v .«not_before») limit) (omega (arith, h, k))
+
+-- ---- the rules
+
 pub broken-from : (p : Profile) (c : Certificate)
     → rule111 p c ≡ brokenAt (not (ltb (momentOf (c .validity .«not_after»)) (limitEnds (c .validity .«not_before») (limitOf p)))) (c .period)
 broken-from p c = ap (λ t. brokenAt (not t) (c .period)) (within-end (c .validity) (limitOf p) (limit-positive p))
 
-not-later : (p : Profile) (c : Certificate) → momentOf (c .validity .«not_after») ≤ momentOf (c .validity .«not_before») → rule111 p c ≡ []
+kept : (p : Profile) (c : Certificate) → momentOf (c .validity .«not_after») ≤ momentOf (c .validity .«not_before») → rule111 p c ≡ []
 unfolding brokenAt
-not-later p c h =
-    let end = momentOf (c .validity .«not_after») in
-    let over = limitEnds (c .validity .«not_before») (limitOf p) in
-    let k = starts-within (c .validity .«not_before») (limitOf p) (limit-positive p) in
-    broken-from p c ∙ ap (λ t. brokenAt (not t) (c .period)) (lt-ltb end over (omega (arith, h, k)))
+kept p c h = ap (λ t. brokenAt (not t) (c .period)) (not-later (c .validity) (limitOf p) (limit-positive p) h)
 
 pub reversed-alone : (p : Profile) (c : Certificate) → reversedOf (c .validity) ≡ true → (rule110 c ≡ c .period ∷ []) × (rule111 p c ≡ [])
 unfolding brokenAt
 reversed-alone p c e =
     let h = ltb-true (momentOf (c .validity .«not_after»)) (momentOf (c .validity .«not_before»)) e in
-    (ap (λ t. brokenAt t (c .period)) e, not-later p c (omega (arith, h)))
+    (ap (λ t. brokenAt t (c .period)) e, kept p c (omega (arith, h)))
 
 pub equal-keeps : (p : Profile) (c : Certificate) → momentOf (c .validity .«not_after») ≡ momentOf (c .validity .«not_before»)
     → (rule110 c ≡ []) × (rule111 p c ≡ [])
 unfolding brokenAt
 equal-keeps p c e =
     let h = le-ltb (momentOf (c .validity .«not_after»)) (momentOf (c .validity .«not_before»)) (omega (arith, e)) in
-    (ap (λ t. brokenAt t (c .period)) h, not-later p c (omega (arith, e)))
+    (ap (λ t. brokenAt t (c .period)) h, kept p c (omega (arith, e)))
