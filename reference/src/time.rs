@@ -1,4 +1,4 @@
-//! Times, with the form they had, and the seconds between them.
+//! Times, with the form they had, and the seconds from one through another.
 
 use crate::der::{Element, GENERALIZED_TIME, UTC_TIME};
 use crate::structure::Misfit;
@@ -108,6 +108,12 @@ impl Date {
             - 1;
         let minutes = 60 * i64::from(self.hour) + i64::from(self.minute);
         days * SECONDS_A_DAY + 60 * minutes + i64::from(self.second)
+    }
+
+    /// How many seconds there are from this one "through" another, "inclusive" (RFC 5280, 4.1.2.5): a second through
+    /// itself is one. Through the second before it there are none, and through an earlier one fewer than none.
+    pub fn seconds_through(self, last: Date) -> i64 {
+        last.seconds() - self.seconds() + 1
     }
 }
 
@@ -227,13 +233,35 @@ mod tests {
         assert_eq!(before.anniversary(10).seconds(), last);
     }
 
+    fn seconds_through(first: &str, last: &str) -> i64 {
+        let [first, last] = [first, last].map(|text| generalized(text).unwrap());
+        first.seconds_through(last)
+    }
+
     #[test]
-    fn three_hundred_and_ninety_five_days() {
-        let start = utc("240101000000Z").unwrap().seconds();
-        assert_eq!(utc("250130000000Z").unwrap().seconds() - start, days(395));
-        assert_eq!(
-            utc("250130000001Z").unwrap().seconds() - start,
-            days(395) + 1
-        );
+    fn both_ends_count() {
+        let noon = "20240101120000Z";
+        assert_eq!(seconds_through(noon, "20240101120001Z"), 2);
+        assert_eq!(seconds_through(noon, noon), 1);
+        assert_eq!(seconds_through(noon, "20240101115959Z"), 0);
+        assert_eq!(seconds_through(noon, "20240101115958Z"), -1);
+        assert_eq!(seconds_through(noon, "20231231120000Z"), 1 - days(1));
+    }
+
+    #[test]
+    fn days_end_a_second_before_they_are_over() {
+        let start = "20240101000000Z";
+        assert_eq!(seconds_through(start, "20240101235959Z"), days(1));
+        assert_eq!(seconds_through(start, "20240214235959Z"), days(45));
+        assert_eq!(seconds_through(start, "20250129235959Z"), days(395));
+        assert_eq!(seconds_through(start, "20250130000000Z"), days(395) + 1);
+    }
+
+    #[test]
+    fn all_seconds_there_are() {
+        let (first, last) = ("00000101000000Z", "99991231235959Z");
+        let all = days(25 * 146_097);
+        assert_eq!(seconds_through(first, last), all);
+        assert_eq!(seconds_through(last, first), 2 - all);
     }
 }

@@ -1,5 +1,6 @@
-//! The four profiles: which rules exist in each, and how each extension stands.
+//! The four profiles: which rules exist in each, how each extension stands, and how long a certificate may be valid.
 
+use crate::calendar::{Moment, DAY};
 use crate::element::Element;
 use crate::object_identifiers as oid;
 use crate::random::Random;
@@ -152,6 +153,18 @@ pub fn breaking_in(profile: u8, rule: u16, element: Element) -> Element {
     }
 }
 
+/// The last second that a validity from a moment on may have. RFC 5280 counts both ends, so the second that begins when
+/// 395 or 45 days are over is one too many, and so is the tenth anniversary. It may lie past all that can be written.
+pub fn last_permitted_second(profile: u8, not_before: Moment) -> Moment {
+    let one_too_many = match profile {
+        1 | 2 => not_before.later(395 * DAY),
+        3 => not_before.later(45 * DAY),
+        4 => not_before.anniversary(10),
+        _ => panic!("there is no profile {profile}"),
+    };
+    one_too_many.later(-1)
+}
+
 fn rules_on_fields(profile: u8) -> Vec<u16> {
     let mut rules = vec![101, 102, 103, 105, 106, 107, 108, 109, 110, 111, 112, 113, 114, 115, 201, 204];
     rules.extend(match profile {
@@ -173,4 +186,17 @@ fn rules_on_values(profile: u8) -> Vec<u16> {
         _ => panic!("there is no profile {profile}"),
     });
     rules
+}
+
+#[cfg(test)]
+mod tests {
+    use super::*;
+
+    #[test]
+    fn the_last_second_of_a_validity_is_the_one_before_the_limit_is_over() {
+        let last = |profile: u8| last_permitted_second(profile, Moment::at(2024, 2, 29).later(1));
+        assert_eq!([1, 2].map(last), [Moment::at(2025, 3, 30); 2]);
+        assert_eq!(last(3), Moment::at(2024, 4, 14));
+        assert_eq!(last(4), Moment::at(2034, 2, 28));
+    }
 }

@@ -2,13 +2,14 @@
 
 mod authority;
 
-use crate::calendar::{Fields, Moment, DAY};
+use crate::calendar::{Fields, Moment};
 use crate::certificate::{Attribute, Extension, KeyKind, Name, RelativeName};
 use crate::correct::*;
 use crate::element::{tag, Element, Part};
 use crate::general_names::*;
 use crate::keys;
 use crate::object_identifiers as oid;
+use crate::profile::last_permitted_second;
 use crate::random::Random;
 
 /// Varies everything that the rules leave free.
@@ -107,26 +108,16 @@ fn any_text(random: &mut Random) -> Element {
     Element::primitive(*random.choose(&kinds), &text)
 }
 
-/// The longest validity that a profile allows from a moment on, in seconds.
-pub fn longest_validity(profile: u8, not_before: Moment) -> i64 {
-    match profile {
-        1 | 2 => 395 * DAY,
-        3 => 45 * DAY,
-        4 => not_before.anniversary(10).seconds - not_before.seconds,
-        _ => panic!("there is no profile {profile}"),
-    }
-}
-
 fn vary_validity(pair: &mut Pair, random: &mut Random) {
     let not_before = any_moment(random);
-    let longest = longest_validity(pair.profile, not_before);
-    let seconds = match random.below(4) {
-        0 => longest,
-        1 => 0,
-        _ => random.below(longest as usize + 1) as i64,
+    let last = last_permitted_second(pair.profile, not_before).min(Moment::last());
+    let not_after = match random.below(4) {
+        0 => last,
+        1 => not_before,
+        _ => not_before.later(random.below((last.seconds - not_before.seconds) as usize + 1) as i64),
     };
     pair.certificate.not_before = not_before.due_form();
-    pair.certificate.not_after = not_before.later(seconds).min(Moment::last()).due_form();
+    pair.certificate.not_after = not_after.due_form();
 }
 
 /// A moment from 1950 to 9990, most often near today or near the change of form.

@@ -1,4 +1,5 @@
-//! Every example of document 01, those marked P too, as far as the public functions reach them.
+//! Every example of document 01, as document 02 changes it, those marked P too, as far as the public functions reach
+//! them.
 
 use comparison::calendar::{Fields, Moment, DAY};
 use comparison::certificate::node;
@@ -119,14 +120,20 @@ fn p9_two_digits_of_a_year() {
     }
 }
 
+/// P10 as document 02 changes it: "250130000000Z now breaks 111 and 250129235959Z keeps it."
 #[test]
 fn p10_the_longest_validity_of_a_server() {
+    let start = || utc("240101000000Z");
     for profile in SERVER {
-        hold("395 days", &with_times(*profile, utc("240101000000Z"), utc("250130000000Z"), &[]));
-        hold("a second more", &with_times(*profile, utc("240101000000Z"), utc("250130000001Z"), &[111]));
+        hold("395 days", &with_times(*profile, start(), utc("250129235959Z"), &[]));
+        hold("a second more", &with_times(*profile, start(), utc("250130000000Z"), &[111]));
+        // Document 01's own second that is too late still is.
+        hold("two seconds more", &with_times(*profile, start(), utc("250130000001Z"), &[111]));
     }
-    hold("45 days", &with_times(3, utc("240101000000Z"), utc("240215000000Z"), &[]));
-    hold("a second more", &with_times(3, utc("240101000000Z"), utc("240215000001Z"), &[111]));
+    hold("45 days", &with_times(3, start(), utc("240214235959Z"), &[]));
+    hold("a second more", &with_times(3, start(), utc("240215000000Z"), &[111]));
+    hold("ten years", &with_times(4, start(), utc("331231235959Z"), &[]));
+    hold("a second more", &with_times(4, start(), utc("340101000000Z"), &[111]));
     let start = Moment::at(2024, 1, 1);
     assert_eq!(start.later(395 * DAY), Moment::at(2025, 1, 30));
     assert_eq!(start.later(45 * DAY), Moment::at(2024, 2, 15));

@@ -20,7 +20,7 @@ use comparison::mutants::Mutants;
 use comparison::mutation::{every_change_of_an_element, every_change_of_an_octet, mutate_octets};
 use comparison::object_identifiers as oid;
 use comparison::outside::{self, Outside};
-use comparison::profile::{existing_rules, ALL};
+use comparison::profile::{existing_rules, last_permitted_second, ALL};
 use comparison::queue::{hold_met, Request};
 use comparison::random::Random;
 
@@ -143,29 +143,45 @@ fn changes_at_every_octet_of_plain_certificates_are_answered_alike() {
 fn chance_validities_are_judged_alike() {
     let mut linter = Linter::of("certificates with chance validities");
     let mut random = Random::for_purpose("chance validities");
+    let (mut near, mut years) = (BTreeSet::new(), BTreeSet::new());
     for _ in 0..cases(4_000) {
         let profile = *random.choose(ALL);
         let mut pair = plain(profile);
         let start = chance_moment(&mut random);
-        let end = match random.below(4) {
-            0 => chance_moment(&mut random),
-            1 => start.later(random.below(500) as i64 * DAY + random.between(0, 2) as i64 - 1),
-            2 => start.anniversary(10).later(random.between(0, 4) as i64 - 2).min(Moment::last()),
-            _ => start.later(*random.choose(&[395, 45]) * DAY + random.between(0, 4) as i64 - 2),
-        };
+        let end = chance_end(start, &mut random);
         pair.certificate.not_before = in_some_form(start, &mut random);
         pair.certificate.not_after = in_some_form(end, &mut random);
         let case = pair.encode();
         linter.compare("a validity", call(profile, &case.certificate, &case.issuer, &mut random));
+        let seconds = end.seconds - last_permitted_second(profile, start).seconds;
+        if (-2..=2).contains(&seconds) {
+            near.insert((profile, seconds));
+            years.extend([start.fields().year, end.fields().year]);
+        }
     }
     let met = linter.finish();
-    hold_met(&met, &["no finding", "findings"]);
+    hold_met(&met, &["no finding", "findings", "rule 109", "rule 110", "rule 111"]);
+    assert_eq!(near.len(), 5 * ALL.len(), "each second about the last permitted one, in each profile");
+    assert!(years.contains(&0) && years.contains(&9999), "from the first year to the last");
+}
+
+/// Any moment, or one about whole days after the start or before it, or about some profile's last permitted second.
+fn chance_end(start: Moment, random: &mut Random) -> Moment {
+    let seconds = random.between(0, 4) as i64 - 2;
+    let end = match random.below(6) {
+        0 => chance_moment(random),
+        1 => start.later(random.below(500) as i64 * DAY + seconds),
+        2 => start.later(seconds - random.below(5_000) as i64 * DAY),
+        _ => last_permitted_second(*random.choose(ALL), start).later(seconds),
+    };
+    end.clamp(Moment::at(0, 1, 1), Moment::last())
 }
 
 fn chance_moment(random: &mut Random) -> Moment {
-    let year = match random.below(4) {
-        0 => random.between(1, 9997),
+    let year = match random.below(5) {
+        0 => random.between(0, 9999),
         1 => *random.choose(&[1950, 1999, 2000, 2048, 2049, 2050, 2099, 2100]),
+        2 => *random.choose(&[0, 4, 9989, 9990, 9998, 9999]),
         _ => random.between(2020, 2052),
     };
     let (year, month) = (year as i64, random.between(1, 12) as i64);

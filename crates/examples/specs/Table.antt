@@ -174,7 +174,7 @@ p12Handed =
 abbrev p12Listing : String
 p12Listing = "record 1 profile 1 refused 6 side 1 at 0\nlost 1 unsound\nlost 2 short\nrecords 1 blocks 3 lost 2\n"
 
--- P10 and P11 hold for both profiles of S.
+-- P10 has the values of document 02, CR 2; it and P11 hold for both profiles of S.
 unfoldable pub table : List Example
 table =
     P 1 (linted (0x30 ∷ 0x00 ∷ [])) (refusal 6 1 0)
@@ -192,10 +192,10 @@ table =
     ∷ P 8 (below (0x60 ∷ 0x86 ∷ 0x48 ∷ 0x01 ∷ 0x65 ∷ 0x03 ∷ 0x02 ∷ 0x01 ∷ 0x03 ∷ 0x0D ∷ [])) (says true)
     ∷ P 9 (year "491231235959Z") (number (pos 2049))
     ∷ P 9 (year "500101000000Z") (number (pos 1950))
-    ∷ P 10 (validity Domain "240101000000Z" "250130000000Z") (breaks [])
-    ∷ P 10 (validity Domain "240101000000Z" "250130000001Z") (breaks (111 ∷ []))
-    ∷ P 10 (validity Organization "240101000000Z" "250130000000Z") (breaks [])
-    ∷ P 10 (validity Organization "240101000000Z" "250130000001Z") (breaks (111 ∷ []))
+    ∷ P 10 (validity Domain "240101000000Z" "250129235959Z") (breaks [])
+    ∷ P 10 (validity Domain "240101000000Z" "250130000000Z") (breaks (111 ∷ []))
+    ∷ P 10 (validity Organization "240101000000Z" "250129235959Z") (breaks [])
+    ∷ P 10 (validity Organization "240101000000Z" "250130000000Z") (breaks (111 ∷ []))
     ∷ P 11 (usage Domain Rsa (0x03 ∷ 0x02 ∷ 0x05 ∷ 0xA0 ∷ [])) (breaks [])
     ∷ P 11 (usage Domain EllipticCurve (0x03 ∷ 0x02 ∷ 0x05 ∷ 0xA0 ∷ [])) (breaks (405 ∷ []))
     ∷ P 11 (usage Organization Rsa (0x03 ∷ 0x02 ∷ 0x05 ∷ 0xA0 ∷ [])) (breaks [])

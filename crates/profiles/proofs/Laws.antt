@@ -2,3 +2,4 @@
 pub mod Judged
 pub mod Extensions
 pub mod Slots
+pub mod Limits

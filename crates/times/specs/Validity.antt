@@ -1,6 +1,6 @@
--- A validity's times, "kept with the form it had", and rules 109 to 111 (document 01, "Rules on fields").
-use mathlib.Core.Bool.{Bool, false}
-use Prim.Native.Nat.{ℕ, _-_, _*_}
+-- A validity's times, "kept with the form it had", and rules 109 to 111 (document 01, "Rules on fields"; document 02, CR 2).
+use mathlib.Core.Bool.{Bool, false, _&&_}
+use Prim.Native.Nat.{ℕ, _+_, _-_, _*_}
 use lib.Dec.{ltb, leb}
 use Rattle.times.specs.declared.calendar.Date.{Date}
 use Rattle.times.specs.declared.validity.Time.{Time}
@@ -26,10 +26,19 @@ earlyGeneral (General d) = ltb (d .year) 2050
 abbrev pub reversedOf : Validity → Bool
 reversedOf v = ltb (momentOf (v .«not_after»)) (momentOf (v .«not_before»))
 
--- 111 "notAfter minus notBefore at most .. days .., of 86,400 seconds"; the difference is 0 if the times stand the wrong way round
-abbrev pub withinDaysOf : Validity → ℕ → Bool
-withinDaysOf v limit = leb (momentOf (v .«not_after») - momentOf (v .«not_before»)) (86400 * limit)
+-- "The validity period for a certificate is the period of time from notBefore through notAfter, inclusive" (RFC 5280, 4.1.2.5)
+abbrev pub isValidAt : Validity → ℕ → Bool
+isValidAt v moment = leb (momentOf (v .«not_before»)) moment && leb moment (momentOf (v .«not_after»))
 
--- 111 for a limit in years: notAfter at most the anniversary of notBefore
+-- the number of its seconds, both ends counted: "notAfter minus notBefore plus one second" (document 02, CR 2), none if the times stand the wrong way
+-- round
+abbrev pub spanOf : Validity → ℕ
+spanOf v = momentOf (v .«not_after») + 1 - momentOf (v .«not_before»)
+
+-- 111 for a limit in days, "of 86,400 seconds"
+abbrev pub withinDaysOf : Validity → ℕ → Bool
+withinDaysOf v limit = leb (spanOf v) (86400 * limit)
+
+-- 111 for a limit in years: "the last permitted second is the one before the .. anniversary" (CR 2)
 abbrev pub withinYearsOf : Validity → ℕ → Bool
-withinYearsOf v years = leb (momentOf (v .«not_after»)) (secondsOf (anniversaryOf years (dateOf (v .«not_before»))))
+withinYearsOf v years = ltb (momentOf (v .«not_after»)) (secondsOf (anniversaryOf years (dateOf (v .«not_before»))))

@@ -4,7 +4,7 @@ use crate::calendar::Date;
 use crate::calendar::seconds;
 ghost use mathlib.Core.Path.{_≡_};
 ghost use Prim.Native.Nat.{_<_, _^_};
-ghost use Rattle.times.specs.Validity.{dateOf, momentOf, earlyGeneral, reversedOf, withinDaysOf, withinYearsOf};
+ghost use Rattle.times.specs.Validity.{dateOf, momentOf, earlyGeneral, reversedOf, spanOf, withinDaysOf, withinYearsOf};
 
 pub enum Time {
     Utc(Date),
@@ -51,20 +51,28 @@ pub fn reversed(v: Validity) -> bool
     moment(after) < moment(before)
 }
 
+// The seconds of a validity, both ends among them; none if its times stand the wrong way round.
+fn span(v: Validity) -> usize
+    ensures { λ r. ⌜ r ≡ spanOf v ⌝ }
+{
+    let before = v.not_before;
+    let after = v.not_after;
+    octets::minus(moment(after) + 1, moment(before))
+}
+
 // Whether rule 111 is kept, for a limit of so many days. Times the wrong way round keep it: rule 110 speaks of them.
 pub fn within_days(v: Validity, limit: u16) -> bool
     ensures { λ r. ⌜ r ≡ withinDaysOf v limit ⌝ }
 {
-    let before = v.not_before;
-    let after = v.not_after;
-    octets::minus(moment(after), moment(before)) <= 86400 * limit as usize
+    span(v) <= 86400 * limit as usize
 }
 
-// Whether rule 111 is kept, for a limit of so many years. Here too times the wrong way round keep it.
+// Whether rule 111 is kept, for a limit of so many years: notAfter comes before the anniversary of notBefore. Here too times the wrong way round
+// keep it.
 pub fn within_years(v: Validity, years: u16) -> bool
     ensures { λ r. ⌜ r ≡ withinYearsOf v years ⌝ }
 {
     let before = v.not_before;
     let after = v.not_after;
-    moment(after) <= anniversary(date_of(before), years)
+    moment(after) < anniversary(date_of(before), years)
 }

@@ -71,21 +71,26 @@ fn rule_109(case: Case, report: &mut Report) {
 fn rules_110_and_111(case: Case, report: &mut Report) {
     let validity = case.certificate.validity;
     let not_before = validity.not_before.1.date();
-    let not_after = validity.not_after.1.date().seconds();
-    // "110 notAfter not before notBefore."
-    report.require(110, not_after >= not_before.seconds(), validity.element);
-    // "111 notAfter minus notBefore at most …" "(110 and 111 at the validity)"
-    let latest = latest_end(case.profile, not_before);
-    report.require(111, not_after <= latest, validity.element);
+    let not_after = validity.not_after.1.date();
+    // "110 notAfter not before notBefore." "(110 and 111 at the validity)"
+    let is_in_order = not_after.seconds() >= not_before.seconds();
+    report.require(110, is_in_order, validity.element);
+    // "RFC 5280 counts both ends of a validity": it is "the period of time from notBefore through notAfter, inclusive"
+    // (4.1.2.5). "111 now compares notAfter minus notBefore plus one second with the limit". Times the wrong way round
+    // are no second or fewer, which every limit allows.
+    let is_within = not_before.seconds_through(not_after) <= limit(case.profile, not_before);
+    report.require(111, is_within, validity.element);
 }
 
-/// The last second that rule 111 permits for a validity that starts then: "at most 395 days (S), 45 days (O), of 86,400
-/// seconds"; in profile 4 "111 allows ten years: same month, day and time ten years on, 28 February for a start on 29
-/// February."
-fn latest_end(profile: Profile, not_before: Date) -> i64 {
+/// So many seconds a validity that starts then may have: "at most 395 days (S), 45 days (O), of 86,400 seconds"; in
+/// profile 4 "ten years: same month, day and time ten years on, 28 February for a start on 29 February", so that "the
+/// last permitted second is the one before the tenth anniversary".
+fn limit(profile: Profile, not_before: Date) -> i64 {
     match profile {
-        Profile::DomainServer | Profile::OrganizationServer => not_before.seconds() + days(395),
-        Profile::Responder => not_before.seconds() + days(45),
-        Profile::SubordinateAuthority => not_before.anniversary(10).seconds(),
+        Profile::DomainServer | Profile::OrganizationServer => days(395),
+        Profile::Responder => days(45),
+        Profile::SubordinateAuthority => {
+            not_before.anniversary(10).seconds() - not_before.seconds()
+        }
     }
 }

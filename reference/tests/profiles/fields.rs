@@ -52,29 +52,6 @@ fn algorithms_and_issuer() {
 }
 
 #[test]
-fn validity() {
-    let change = |validity: &[u8]| {
-        let validity = validity.to_vec();
-        move |draft: &mut Draft| draft.validity = validity
-    };
-    expect(1, change(&times("240101000000Z", "250130000000Z")), &[]);
-    let late = times("240101000000Z", "250130000001Z");
-    expect(1, change(&late), &[(111, &late)]);
-    expect(3, change(&times("240101000000Z", "240215000000Z")), &[]);
-    let late = times("240101000000Z", "240215000001Z");
-    expect(3, change(&late), &[(111, &late)]);
-    let turned = times("240102000000Z", "240101000000Z");
-    expect(3, change(&turned), &[(110, &turned)]);
-    let written_out = element(0x18, b"20491231235959Z");
-    let findings: &[(u16, &[u8])] = &[(109, &written_out)];
-    expect(
-        1,
-        change(&times("20491231235959Z", "20500101000000Z")),
-        findings,
-    );
-}
-
-#[test]
 fn subjects() {
     let unit = attribute("2.5.4.11", 0x13, "Unit");
     let unit_set = joined(0x31, &[unit.clone()]);

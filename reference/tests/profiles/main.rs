@@ -4,6 +4,7 @@ mod draft;
 mod fields;
 mod refusals;
 mod subordinate_authority;
+mod validity;
 mod values;
 
 use draft::*;

@@ -3,41 +3,6 @@
 use super::values::expect_value;
 use super::*;
 
-fn with_validity(not_before: &str, not_after: &str) -> impl Fn(&mut Draft) {
-    let validity = times(not_before, not_after);
-    move |draft: &mut Draft| draft.validity = validity.clone()
-}
-
-#[test]
-fn ten_years() {
-    for (not_before, not_after) in [
-        ("240101000000Z", "340101000000Z"),
-        ("240229123456Z", "340228123456Z"),
-        ("400229000000Z", "20500228000000Z"),
-        ("99891231235959Z", "99991231235959Z"),
-        ("99900101000000Z", "99991231235959Z"),
-        ("99960229000000Z", "99991231235959Z"),
-    ] {
-        expect(4, with_validity(not_before, not_after), &[]);
-    }
-    for (not_before, not_after) in [
-        ("240101000000Z", "340101000001Z"),
-        ("240229123456Z", "340228123457Z"),
-        ("240229000000Z", "340301000000Z"),
-        ("400229000000Z", "20500228000001Z"),
-        ("99891231235958Z", "99991231235959Z"),
-    ] {
-        let change = with_validity(not_before, not_after);
-        expect(4, change, &[(111, &times(not_before, not_after))]);
-    }
-    let turned = times("340101000000Z", "240101000000Z");
-    expect(
-        4,
-        |draft| draft.validity = turned.clone(),
-        &[(110, &turned)],
-    );
-}
-
 #[test]
 fn common_names() {
     let change = |common_name: &[u8]| {

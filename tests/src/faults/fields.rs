@@ -10,7 +10,7 @@ use crate::general_names::dns;
 use crate::object_identifiers as oid;
 use crate::profile::*;
 use crate::random::Random;
-use crate::variations::{any_moment, longest_validity, positive_contents};
+use crate::variations::{any_moment, positive_contents};
 
 pub(super) fn add(faults: &mut Catalogue) {
     add_version(faults);
@@ -183,11 +183,12 @@ fn add_ten_years(faults: &mut Catalogue) {
     faults.add("too long from a 29 February", &[111], AUTHORITY, |pair, random, _| {
         let year = *random.choose(&[1952, 2024, 2040, 2048, 2096, 2396, 9972]);
         let start = Moment::at(year, 2, 29).later(random.below(DAY as usize) as i64);
-        // A day over is 1 March, where a count of months might put the end of February.
+        // A day over is still before 1 March at the same time, which might be taken for the anniversary.
         too_long(pair, start, *random.choose(&[1, DAY]));
     });
     faults.add("too long at the end of all years", &[111], AUTHORITY, |pair, _, _| {
-        too_long(pair, Moment::at(9990, 1, 1).later(-2), 1);
+        // The anniversary is the last second that can be written.
+        too_long(pair, Moment::at(9990, 1, 1).later(-1), 1);
     });
 }
 
@@ -196,9 +197,9 @@ fn early(random: &mut Random) -> Moment {
     Moment::at(random.between(1950, 2048) as i64, 6, 30)
 }
 
+/// Ends the validity so many seconds after the last one that is permitted.
 fn too_long(pair: &mut Pair, not_before: Moment, over: i64) {
-    let longest = longest_validity(pair.profile, not_before);
-    let not_after = not_before.later(longest + over);
+    let not_after = last_permitted_second(pair.profile, not_before).later(over);
     pair.certificate.not_before = not_before.due_form();
     pair.certificate.not_after = not_after.due_form();
     pair.certificate.validity_marks.push(Mark::Breaks(111));

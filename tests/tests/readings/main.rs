@@ -8,6 +8,7 @@ mod issuer;
 mod places;
 mod refusals;
 mod rules;
+mod validity;
 mod values;
 
 use comparison::bad_values::nested_other_name;

@@ -121,16 +121,6 @@ fn years_go_from_0000_to_9999_by_the_leap_rule_of_today() {
             refuse(tree.find(node::NOT_BEFORE), 6);
         });
     }
-    // The number of days between two times follows the same rule.
-    in_every(RESPONDER, "45 days over a leap day", |pair| {
-        pair.certificate.not_before = time("00000201000000Z").breaking(109);
-        pair.certificate.not_after = time("00000317000000Z").breaking(109);
-    });
-    in_every(RESPONDER, "45 days and a second without one", |pair| {
-        pair.certificate.not_before = time("21000201000000Z");
-        pair.certificate.not_after = time("21000318000001Z");
-        pair.certificate.validity_marks.push(Mark::Breaks(111));
-    });
 }
 
 #[test]

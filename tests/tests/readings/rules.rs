@@ -234,16 +234,6 @@ fn rule_207_knows_every_prime_below_752() {
 }
 
 #[test]
-fn rule_111_is_kept_with_the_times_the_wrong_way_round() {
-    in_every(ALL, "a century backwards", |pair| {
-        pair.certificate.not_before = Moment::at(2049, 1, 1).utc();
-        pair.certificate.not_after = Moment::at(1950, 1, 1).utc();
-        pair.certificate.validity_marks.push(Mark::Breaks(110));
-    });
-    in_every(ALL, "the same second", |pair| pair.certificate.not_after = pair.certificate.not_before.clone());
-}
-
-#[test]
 fn an_http_uri_is_http_in_any_case_and_something_more() {
     for address in ["http://a", "HTTP://a", "hTTp:// ", "http:///", "http://\u{e9}"] {
         in_every(SERVER_AND_AUTHORITY, "HTTP", |pair| {

@@ -4,9 +4,6 @@
 --     anniversary-days     from a date to its anniversary it is the days of whole years, each with a 29 February that comes between;
 --                          from a 29 February on one less
 --     anniversary-later    an anniversary comes after its date
---     past-9999            an anniversary past the year 9999 breaks nothing
---     reversed-within      nor does a notAfter that is not after notBefore
---     years-exactly        ten years from noon of a 29 February: up to noon of the 28th, and not a second more
 -- Assumes nothing.
 use mathlib.Core.Path.{_≡_, refl, ap, _∙_}
 use mathlib.Core.Bool.{Bool, true, false, cond, not, _&&_, _||_}
@@ -15,13 +12,10 @@ use native.Mathlib.Omega.{arith}
 use lib.Dec.{ltb, leb, eqb}
 use borrow.Author.Tests.{ltb-true, ltb-false, eqb-true, eqb-false, le-leb, ne-eqb}
 use Rattle.times.specs.declared.calendar.Date.{Date}
-use Rattle.times.specs.declared.validity.Time.the-variants.{Utc}
-use Rattle.times.specs.declared.validity.Validity.{Validity}
 use Rattle.times.specs.Calendar.{leapYear, monthLength, beforeMonth, beforeYear, daysOf, secondsOf, dateOk}
 use Rattle.times.specs.Anniversary.{isLeapDay, yearlyDay, anniversaryOf}
-use Rattle.times.specs.Validity.{dateOf, momentOf, withinYearsOf}
 use Rattle.octets.proofs.Laws.Tests.{and-l}
-use Rattle.times.proofs.Laws.Calendar.{months-early, months-late, year-next, years-apart, real-day, real-time, later-year}
+use Rattle.times.proofs.Laws.Calendar.{months-early, months-late, year-next, years-apart, real-day, real-time}
 
 pub leap-day-gone : (y years : ℕ) → 0 < years % 4 → leapYear y ≡ true → leapYear (y + years) ≡ false
 leap-day-gone y years h leap =
@@ -115,29 +109,3 @@ anniversary-later years d h =
     go : (n m y z : ℕ) (t : Bool) (c : ℕ) → m + cond t 1 0 + y ≡ n + z → y + 365 ≤ z → 86400 * n + c < 86400 * m + c
     go n m y z true c e f = omega arith
     go n m y z false c e f = omega arith
-
--- ---- rule 111
-
-pub past-9999 : (v : Validity) (years : ℕ) → dateOk (dateOf (v .«not_after»)) ≡ true → dateOf (v .«not_after») .year ≤ 9999
-    → 9999 < dateOf (v .«not_before») .year + years → withinYearsOf v years ≡ true
-unfolding momentOf anniversaryOf
-past-9999 v years ok h l =
-    let end = anniversaryOf years (dateOf (v .«not_before»)) in
-    let e = later-year (dateOf (v .«not_after»)) end ok (omega arith) in
-    le-leb (momentOf (v .«not_after»)) (secondsOf end) (omega (arith, e))
-
-pub reversed-within : (v : Validity) (years : ℕ) → 0 < years → momentOf (v .«not_after») ≤ momentOf (v .«not_before») → withinYearsOf v years ≡ true
-unfolding momentOf
-reversed-within v years h l =
-    let e = anniversary-later years (dateOf (v .«not_before»)) h in
-    le-leb (momentOf (v .«not_after»)) (secondsOf (anniversaryOf years (dateOf (v .«not_before»)))) (omega (arith, e))
-
-abbrev pub noon : ℕ → ℕ → ℕ → ℕ → Date
-noon year month day second = record { year = year; month = month; day = day; hour = 12; minute = 0; second = second }
-
-abbrev pub fromLeapDay : Date → Validity
-fromLeapDay d = record { «not_before» = Utc (noon 2024 2 29 0); «not_after» = Utc d }
-
-pub years-exactly : (withinYearsOf (fromLeapDay (noon 2034 2 28 0)) 10 ≡ true) × (withinYearsOf (fromLeapDay (noon 2034 2 28 1)) 10 ≡ false)
-unfolding momentOf secondsOf daysOf beforeYear beforeMonth anniversaryOf
-years-exactly = (refl, refl)
