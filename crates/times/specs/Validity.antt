@@ -30,12 +30,11 @@ reversedOf v = ltb (momentOf (v .«not_after»)) (momentOf (v .«not_before»))
 abbrev pub isValidAt : Validity → ℕ → Bool
 isValidAt v moment = leb (momentOf (v .«not_before»)) moment && leb moment (momentOf (v .«not_after»))
 
--- the number of its seconds, both ends counted: "notAfter minus notBefore plus one second" (document 02, CR 2), none if the times stand the wrong way
--- round
+-- the number of its seconds, both ends counted: "notAfter minus notBefore plus one second" (document 02, CR 2); none if the times are reversed
 abbrev pub spanOf : Validity → ℕ
 spanOf v = momentOf (v .«not_after») + 1 - momentOf (v .«not_before»)
 
--- 111 for a limit in days, "of 86,400 seconds"
+-- 111 "compares notAfter minus notBefore plus one second with the limit" (CR 2), in days "of 86,400 seconds"
 abbrev pub withinDaysOf : Validity → ℕ → Bool
 withinDaysOf v limit = leb (spanOf v) (86400 * limit)
 

@@ -34,10 +34,9 @@ limitEnds start (Years years) = secondsOf (anniversaryOf years (dateOf start))
 
 -- ---- limits
 
-within-end : (v : Validity) (limit : Limit) → Positive limit
-    → withinLimit v limit ≡ ltb (momentOf (v .«not_after»)) (limitEnds (v .«not_before») limit)
-within-end v (Days days) h = days-end v days h
-within-end v (Years years) h = refl
+within-end : (v : Validity) (limit : Limit) → withinLimit v limit ≡ ltb (momentOf (v .«not_after»)) (limitEnds (v .«not_before») limit)
+within-end v (Days days) = days-end v days
+within-end v (Years years) = refl
 
 starts-within : (start : Time) (limit : Limit) → Positive limit → momentOf start < limitEnds start limit
 unfolding momentOf
@@ -47,13 +46,13 @@ starts-within start (Years years) h = anniversary-later years (dateOf start) h
 pub not-later : (v : Validity) (limit : Limit) → Positive limit → momentOf (v .«not_after») ≤ momentOf (v .«not_before») → withinLimit v limit ≡ true
 not-later v limit some h =
     let k = starts-within (v .«not_before») limit some in
-    within-end v limit some ∙ lt-ltb (momentOf (v .«not_after»)) (limitEnds (v .«not_before») limit) (omega (arith, h, k))
+    within-end v limit ∙ lt-ltb (momentOf (v .«not_after»)) (limitEnds (v .«not_before») limit) (omega (arith, h, k))
 
 -- ---- the rules
 
 pub broken-from : (p : Profile) (c : Certificate)
     → rule111 p c ≡ brokenAt (not (ltb (momentOf (c .validity .«not_after»)) (limitEnds (c .validity .«not_before») (limitOf p)))) (c .period)
-broken-from p c = ap (λ t. brokenAt (not t) (c .period)) (within-end (c .validity) (limitOf p) (limit-positive p))
+broken-from p c = ap (λ t. brokenAt (not t) (c .period)) (within-end (c .validity) (limitOf p))
 
 kept : (p : Profile) (c : Certificate) → momentOf (c .validity .«not_after») ≤ momentOf (c .validity .«not_before») → rule111 p c ≡ []
 unfolding brokenAt

@@ -1,14 +1,14 @@
 -- How long a validity is, and how long it may be (document 02, CR 1 and CR 2): no word here of how code comes by it.
 --     valid-behind, valid-not-earlier     the moments of a validity are those from notBefore on, as many as its span says
 --     span-apart                          "notAfter minus notBefore plus one second"
---     span-none                           times the wrong way round leave no moment
+--     span-none                           reversed times leave no moment
 --     days-end                            the last permitted second is the one before as many days are over
 --     years-counted                       so many years by the calendar are a limit for the same span
 --     past-9999                           an anniversary past the year 9999 breaks nothing
 --     years-exactly                       ten years from noon of a 29 February: up to the second before noon of the 28th
 -- Assumes nothing.
 use mathlib.Core.Path.{_≡_, refl}
-use mathlib.Core.Bool.{Bool, true, false, _&&_}
+use mathlib.Core.Bool.{true, false, _&&_}
 use Prim.Native.Nat.{ℕ, suc, _+_, _-_, _*_, _≤_, _<_}
 use native.Mathlib.Omega.{arith}
 use lib.Dec.{ltb, leb}
@@ -26,36 +26,26 @@ use Rattle.times.proofs.Laws.Anniversary.{anniversary-later}
 -- ---- the span
 
 pub valid-behind : (v : Validity) (k : ℕ) → isValidAt v (momentOf (v .«not_before») + k) ≡ ltb k (spanOf v)
-valid-behind v k = go (momentOf (v .«not_before»)) (momentOf (v .«not_after»))
-  where
-    go : (a b : ℕ) → (leb a (a + k) && leb (a + k) b) ≡ ltb k (b + 1 - a)
-    go a b = rw (le-leb a (a + k) (omega arith)) (leb-same (a + k) b (suc k) (b + 1 - a) (λ l. omega arith) (λ l. omega arith))
+valid-behind v k =
+    let start = momentOf (v .«not_before») in
+    let end = momentOf (v .«not_after») in
+    rw (le-leb start (start + k) (omega arith)) (leb-same (start + k) end (suc k) (spanOf v) (λ l. omega arith) (λ l. omega arith))
 
 pub valid-not-earlier : (v : Validity) (moment : ℕ) → moment < momentOf (v .«not_before») → isValidAt v moment ≡ false
 valid-not-earlier v moment h = rw (lt-leb (momentOf (v .«not_before»)) moment h)
 
 pub span-apart : (v : Validity) → momentOf (v .«not_before») ≤ momentOf (v .«not_after»)
     → spanOf v ≡ momentOf (v .«not_after») - momentOf (v .«not_before») + 1
-span-apart v h = go (momentOf (v .«not_before»)) (momentOf (v .«not_after»)) h
-  where
-    go : (a b : ℕ) → a ≤ b → b + 1 - a ≡ b - a + 1
-    go a b l = omega arith
+span-apart v h = omega arith
 
 pub span-none : (v : Validity) → reversedOf v ≡ true → spanOf v ≡ 0
-span-none v e =
-    go (momentOf (v .«not_before»)) (momentOf (v .«not_after»)) (ltb-true (momentOf (v .«not_after»)) (momentOf (v .«not_before»)) e)
-  where
-    go : (a b : ℕ) → b < a → b + 1 - a ≡ 0
-    go a b l = omega arith
+span-none v e = let h = ltb-true (momentOf (v .«not_after»)) (momentOf (v .«not_before»)) e in omega arith
 
 -- ---- the limits
 
-pub days-end : (v : Validity) (limit : ℕ) → 0 < limit
-    → withinDaysOf v limit ≡ ltb (momentOf (v .«not_after»)) (momentOf (v .«not_before») + 86400 * limit)
-days-end v limit h = go (momentOf (v .«not_before»)) (momentOf (v .«not_after»))
-  where
-    go : (a b : ℕ) → leb (b + 1 - a) (86400 * limit) ≡ ltb b (a + 86400 * limit)
-    go a b = leb-same (b + 1 - a) (86400 * limit) (suc b) (a + 86400 * limit) (λ l. omega arith) (λ l. omega arith)
+pub days-end : (v : Validity) (limit : ℕ) → withinDaysOf v limit ≡ ltb (momentOf (v .«not_after»)) (momentOf (v .«not_before») + 86400 * limit)
+days-end v limit =
+    leb-same (spanOf v) (86400 * limit) (suc (momentOf (v .«not_after»))) (momentOf (v .«not_before») + 86400 * limit) (λ l. omega arith) (λ l. omega arith)
 
 pub years-counted : (v : Validity) (years : ℕ) → 0 < years
     → withinYearsOf v years ≡ leb (spanOf v) (secondsOf (anniversaryOf years (dateOf (v .«not_before»))) - momentOf (v .«not_before»))
