@@ -3,6 +3,7 @@
 mod extensions;
 mod fields;
 mod judged;
+mod levels;
 mod values;
 
 pub use extensions::Criticality;
@@ -21,6 +22,9 @@ pub use fields::profile_of;
 pub use fields::takes_curves;
 pub use fields::takes_utf8;
 pub use judged::holds;
+pub use levels::Level;
+pub use levels::level_number;
+pub use levels::level_of;
 pub use values::allows_purpose;
 pub use values::usage_with_curve;
 pub use values::usage_with_rsa;

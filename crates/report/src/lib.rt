@@ -4,6 +4,7 @@ mod sink;
 
 pub use reading::read_entry;
 pub use sink::Entry;
+pub use sink::WIDTH;
 pub use sink::has_room;
 pub use sink::judge;
 pub use sink::note;

@@ -14,17 +14,18 @@ ghost use Rattle.report.specs.Entries.{width, entryIf, noted};
 ghost use Rattle.report.specs.Putting.{Put, tick};
 ghost use Rattle.report.specs.Rows.{_⦂_, brokenAt, Puts};
 
-// A finding: the rule, and the place of the element that breaks it.
+// A finding: the rule, the place of the element that breaks it, and the number of the rule's level.
 pub struct Entry {
     pub rule: usize,
     pub place: Place,
+    pub level: usize,
 }
 
 // The octets of an entry.
-pub const WIDTH: usize = 6;
+pub const WIDTH: usize = 8;
 
-// No count goes further: so many entries pass any room.
-const CAP: usize = 2305843009213693952;
+// No count goes further: so many entries pass any room, which has fewer than 2^63 octets.
+const CAP: usize = 9223372036854775808 / WIDTH;
 
 // Whether so many entries do not exceed room of so many octets.
 pub fn has_room(count: usize, room: usize) -> bool
@@ -62,6 +63,7 @@ pub fn put(room: &mut [u8], n: usize, e: Entry) -> usize
         write_pair(room, at, e.rule);
         write_pair(room, at + 2, place.start);
         write_pair(room, at + 4, place.len);
+        write_pair(room, at + 6, e.level);
         return n + 1;
     }
     one_more(n)
@@ -82,6 +84,7 @@ pub fn note(room: &mut [u8], n: usize, rule: usize, bad: bool, h: Head) -> usize
     ensures { λ r. ⌜ Put (noted rule bad h) n (now (room .entry)) r (now (room .exit)) ⌝ }
 {
     let place = Place::element(h.at, h.end);
+    let level = profiles::level_number(profiles::level_of(rule));
     put_if(
         room,
         n,
@@ -89,6 +92,7 @@ pub fn note(room: &mut [u8], n: usize, rule: usize, bad: bool, h: Head) -> usize
         Entry {
             rule: rule,
             place: place,
+            level: level,
         },
     )
 }

@@ -8,7 +8,7 @@
 --     Rest                           loops: what is still to be put, against what was to be put at the start
 --     rest-start, rest-step, rest-last, rest-end
 -- Assumes nothing.
-use mathlib.Core.Path.{_≡_, refl, sym, subst, _∙_}
+use mathlib.Core.Path.{_≡_, refl, sym, subst, ap₂, _∙_}
 use mathlib.Core.List.{List, [], _∷_, _++_}
 use mathlib.Core.Bool.{Bool, true, false}
 use Prim.Native.Nat.{ℕ, _+_, _*_, _/_, _≤_, _<_, _^_}
@@ -24,6 +24,8 @@ use Rattle.octets.specs.Numbers.{pairOf}
 use Rattle.octets.specs.Places.{placeFrom}
 use Rattle.octets.specs.declared.places.Place.{Place}
 use Rattle.der.specs.declared.header.Head.{Head}
+use Rattle.profiles.specs.Judged.{levelOf}
+use Rattle.profiles.specs.Levels.{levelNumber}
 
 -- ---- one entry
 
@@ -37,17 +39,22 @@ module _ (n : ℕ) where
   tick-cap h = rw (le-ltb n cap h)
 
 module _ (e : Entry) (n : ℕ) (room : List ℕ) where
-  -- a, b and last are the room after each of the three pairs
-  pub put-in : (a b last : List ℕ) → n < length room / width → length room < 2 ^ 63 → a ≡ sets room (width * n) (pairOf (e .rule))
-      → b ≡ sets a (width * n + 2) (pairOf (e .place .start)) → last ≡ sets b (width * n + 4) (pairOf (e .place .len))
-      → Put (e ∷ []) n room (n + 1) last
+  -- a, b, d and last are the room after each of the four pairs
+  pub put-in : (a b d last : List ℕ) → n < length room / width → length room < 2 ^ 63 → a ≡ sets room (width * n) (pairOf (e .rule))
+      → b ≡ sets a (width * n + 2) (pairOf (e .place .start)) → d ≡ sets b (width * n + 4) (pairOf (e .place .len))
+      → last ≡ sets d (width * n + 6) (pairOf (e .level)) → Put (e ∷ []) n room (n + 1) last
   unfolding counted putAll putOne
-  put-in a b last h k p q r =
+  put-in a b d last h k p q r t =
       let l : width * n + width ≤ length room = omega arith in
       let f : width * n + 2 + 2 ≡ width * n + 4 = omega arith in
+      let g : width * n + 4 + 2 ≡ width * n + 6 = omega arith in
+      let level = pairOf (e .level) in
+      let len = pairOf (e .place .len) in
+      let start = pairOf (e .place .start) in
       let all : sets room (width * n) (entryOctets e) ≡ last
-      = sets-append (pairOf (e .rule)) (pairOf (e .place .start) ++ pairOf (e .place .len)) room (width * n)
-      ∙ (rw (← p) (sets-append (pairOf (e .place .start)) (pairOf (e .place .len)) a (width * n + 2) ∙ rw (← q, f) (sym r))) in
+      = sets-append (pairOf (e .rule)) (start ++ len ++ level) room (width * n)
+      ∙ (rw (← p) (sets-append start (len ++ level) a (width * n + 2)
+      ∙ rw (← q, f) (sets-append len level b (width * n + 4) ∙ rw (← r, g) (sym t)))) in
       record { count = tick-below n (omega arith); bytes = rw (le-leb (width * n + width) (length room) l) (sym all) }
 
   pub put-out : (r : ℕ) → length room / width ≤ n → r ≡ tick n → Put (e ∷ []) n room r room
@@ -71,11 +78,12 @@ pub put-not : (e : Entry) (n : ℕ) (room : List ℕ) (bad : Bool) → bad ≡ f
 unfolding entryIf
 put-not e n room bad t = rw t (nothing n room)
 
--- the place is the element's
-pub put-noted : {n r : ℕ} {room last : List ℕ} (rule : ℕ) (bad : Bool) (h : Head) (place : Place) → place ≡ placeFrom (h .at) (h .end)
-    → Put (entryIf bad (record { rule = rule; place = place })) n room r last → Put (noted rule bad h) n room r last
-put-noted {n} {r} {room} {last} rule bad h place e p =
-    subst (λ (q : Place). Put (entryIf bad (record { rule = rule; place = q })) n room r last) e p
+-- the place is the element's, the level the rule's
+pub put-noted : {n r : ℕ} {room last : List ℕ} (rule : ℕ) (bad : Bool) (h : Head) (place : Place) (level : ℕ) → place ≡ placeFrom (h .at) (h .end)
+    → level ≡ levelNumber (levelOf rule)
+    → Put (entryIf bad (record { rule = rule; place = place; level = level })) n room r last → Put (noted rule bad h) n room r last
+put-noted {n} {r} {room} {last} rule bad h place level e f p =
+    subst (λ (x : Entry). Put (entryIf bad x) n room r last) (ap₂ (λ (q : Place) (l : ℕ). record { rule = rule; place = q; level = l }) e f) p
 
 counted-behind : (es fs : List Entry) (n : ℕ) → counted (es ++ fs) n ≡ counted fs (counted es n)
 unfolding counted
