@@ -80,6 +80,15 @@ fn printed(text: &str) -> Table {
     table
 }
 
+/// The rules that docs/RULES.md calls should rules, in a sentence of its own: `Should rules: none.` or `Should rules: 511, 512.`
+fn should_rules(text: &str) -> Vec<u16> {
+    let sentence = text.lines().find_map(|line| line.strip_prefix("Should rules: "));
+    match sentence.and_then(|rest| rest.split('.').next()).expect("the sentence on should rules") {
+        "none" => Vec::new(),
+        rules => rules_of(rules),
+    }
+}
+
 /// The rules that some profile judges.
 fn judged(table: Table) -> Table {
     table.into_iter().filter(|(_, profiles)| !profiles.is_empty()).collect()
@@ -95,6 +104,21 @@ fn the_page_and_the_tests_agree() {
     }
     println!("{} rules, {} pairs of rule and profile", own.len(), own.values().map(Vec::len).sum::<usize>());
     assert_eq!(judged(printed(&text_of("docs/RULES.md"))), own, "docs/RULES.md and the tests' own list");
+}
+
+#[test]
+fn the_page_and_the_tests_agree_on_should_rules() {
+    assert_eq!(
+        should_rules(&text_of("docs/RULES.md")),
+        profile::SHOULD,
+        "docs/RULES.md and the tests' own list"
+    );
+}
+
+#[test]
+fn should_rules_are_read_from_their_sentence() {
+    assert_eq!(should_rules("A line.\nShould rules: none. More."), []);
+    assert_eq!(should_rules("Should rules: 511, 512.\n"), [511, 512]);
 }
 
 #[test]
