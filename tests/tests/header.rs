@@ -151,11 +151,13 @@ fn the_example_in_c_expects_what_the_reference_finds() {
 
 #[test]
 fn places_and_numbers_are_read_from_a_header() {
-    let header = "#define A 8\n#define AB 9\n\
-        static inline unsigned f(const uint8_t *room, size_t i) {\n    return dlozamife_pair(room + DLOZAMIFE_FINDING * i);\n}\n\
-        static inline unsigned g(const uint8_t *room, size_t i) {\n    return dlozamife_pair(room + DLOZAMIFE_FINDING * i + 6);\n}\n";
-    assert_eq!(["A", "AB", "B"].map(|name| constant(header, name)), [Some(8), Some(9), None]);
-    assert_eq!(["f", "g", "h"].map(|name| place_read_by(header, name)), [Some(0), Some(6), None]);
+    let function = |name: &str, place: &str| {
+        let read = format!("dlozamife_pair(room + DLOZAMIFE_FINDING * i{place})");
+        format!("static inline unsigned {name}(const uint8_t *room, size_t i) {{\n    return {read};\n}}\n")
+    };
+    let header = format!("#define A 8\n#define AB 9\n{}\n{}", function("f", ""), function("g", " + 6"));
+    assert_eq!(["A", "AB", "B"].map(|name| constant(&header, name)), [Some(8), Some(9), None]);
+    assert_eq!(["f", "g", "h"].map(|name| place_read_by(&header, name)), [Some(0), Some(6), None]);
 }
 
 #[test]
