@@ -18,14 +18,13 @@ const WAITING: usize = 393_216;
 /// What a pipe holds; `WAITING` is six times as much.
 const EDGE: usize = 65_536;
 
-/// The most octets that the lines of a record can have by their form alone, with as many findings as have room, and the last
-/// line. `decklint` writes what waits once there is no room for as much.
+/// As many findings as have room, each of the longest form, and a last line whose numbers are the greatest: no record's own line
+/// is longer. `decklint` writes what waits once there is no room for as much.
 fn longest_lines() -> usize {
     let findings = AMPLE_ROOM / ENTRY;
-    let record = format!("record {} profile {} findings {findings}\n", u32::MAX, u8::MAX);
     let finding = format!("  {number} at {number} length {number} should\n", number = u16::MAX);
-    let last = format!("records {MOST_OCTETS} blocks {MOST_OCTETS} lost {MOST_OCTETS}\n");
-    record.len() + findings * finding.len() + last.len()
+    let last = format!("records {number} blocks {number} lost {number}\n", number = u64::MAX);
+    findings * finding.len() + last.len()
 }
 
 /// A deck of these records, numbered from 1.
