@@ -153,8 +153,8 @@ pub fn octets_of_lines(record: &Record) -> usize {
     record_lines(record.number, record.case.profile, &record.case.expected).len()
 }
 
-/// No line of a name is longer.
-const LINE: &str = "  413 at 8189 length 3 must\n";
+/// No line of a name is longer, of either level.
+const LINE: &str = "  413 at 8189 length 3 should\n";
 
 /// So many records of one block take up what dense records leave of a wanted length, which is less than the lines of one
 /// name more: by the digits of their numbers, up to nine octets each.

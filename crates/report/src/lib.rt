@@ -9,4 +9,3 @@ pub use sink::has_room;
 pub use sink::judge;
 pub use sink::note;
 pub use sink::put;
-pub use sink::put_if;

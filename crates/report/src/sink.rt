@@ -10,7 +10,7 @@ ghost use lib.Dec.{leb};
 ghost use lib.ListN.{length};
 ghost use lib.Seq.{sets};
 ghost use Rattle.octets.specs.Numbers.{pairOf};
-ghost use Rattle.report.specs.Entries.{width, entryIf, noted};
+ghost use Rattle.report.specs.Entries.{width, entryAt, noted};
 ghost use Rattle.report.specs.Putting.{Put, tick};
 ghost use Rattle.report.specs.Rows.{_⦂_, brokenAt, Puts};
 
@@ -69,32 +69,27 @@ pub fn put(room: &mut [u8], n: usize, e: Entry) -> usize
     one_more(n)
 }
 
-// The same where `bad`, and nothing where not.
-pub fn put_if(room: &mut [u8], n: usize, bad: bool, e: Entry) -> usize
-    ensures { λ r. ⌜ Put (entryIf bad e) n (now (room .entry)) r (now (room .exit)) ⌝ }
+// The entry of a rule at an element.
+fn entry_at(rule: usize, h: Head) -> Entry
+    ensures { λ r. ⌜ r ≡ entryAt rule h ⌝ }
 {
-    if bad {
-        return put(room, n, e);
+    let place = Place::element(h.at, h.end);
+    let level = profiles::level_of(rule);
+    Entry {
+        rule: rule,
+        place: place,
+        level: profiles::level_number(level),
     }
-    n
 }
 
 // What a rule does that judges one element: an entry at it where it is bad.
 pub fn note(room: &mut [u8], n: usize, rule: usize, bad: bool, h: Head) -> usize
     ensures { λ r. ⌜ Put (noted rule bad h) n (now (room .entry)) r (now (room .exit)) ⌝ }
 {
-    let place = Place::element(h.at, h.end);
-    let level = profiles::level_number(profiles::level_of(rule));
-    put_if(
-        room,
-        n,
-        bad,
-        Entry {
-            rule: rule,
-            place: place,
-            level: level,
-        },
-    )
+    if bad {
+        return put(room, n, entry_at(rule, h));
+    }
+    n
 }
 
 // What a rule does that judges one element: an entry at it where it is bad, in a profile that judges the rule.

@@ -1,8 +1,8 @@
 -- Appending entries.
 --     tick-below, tick-cap           a count goes up by one, unless it has reached the cap
 --     put-in, put-out                one entry, written or left out
---     put-picked, put-not            an entry by a test
---     put-noted                      an entry at an element
+--     entry-made                     the entry of a rule at an element
+--     put-noted, put-not             it is put, or not, by a test
 --     nothing                        no entries
 --     _⨾_                            entries, and then others
 --     Rest                           loops: what is still to be put, against what was to be put at the start
@@ -17,7 +17,7 @@ use lib.ListN.{length}
 use lib.Seq.{sets}
 use borrow.Author.Tests.{lt-ltb, le-ltb, le-leb, lt-leb}
 use Rattle.report.specs.declared.sink.Entry.{Entry}
-use Rattle.report.specs.Entries.{width, entryOctets, entryIf, noted}
+use Rattle.report.specs.Entries.{width, entryOctets, entryIf, entryAt, noted}
 use Rattle.report.specs.Putting.{cap, tick, putOne, counted, putAll, Put}
 use Rattle.octets.proofs.Laws.Writing.{sets-append}
 use Rattle.octets.specs.Numbers.{pairOf}
@@ -69,21 +69,20 @@ pub nothing : (n : ℕ) (room : List ℕ) → Put [] n room n room
 unfolding counted putAll
 nothing n room = record { count = refl; bytes = refl }
 
-module _ {n r : ℕ} {room last : List ℕ} (e : Entry) (bad : Bool) where
-  pub put-picked : bad ≡ true → Put (e ∷ []) n room r last → Put (entryIf bad e) n room r last
-  unfolding entryIf
-  put-picked t p = rw t p
-
-pub put-not : (e : Entry) (n : ℕ) (room : List ℕ) (bad : Bool) → bad ≡ false → Put (entryIf bad e) n room n room
-unfolding entryIf
-put-not e n room bad t = rw t (nothing n room)
-
 -- the place is the element's, the level the rule's
-pub put-noted : {n r : ℕ} {room last : List ℕ} (rule : ℕ) (bad : Bool) (h : Head) (place : Place) (level : ℕ) → place ≡ placeFrom (h .at) (h .end)
-    → level ≡ levelNumber (levelOf rule)
-    → Put (entryIf bad (record { rule = rule; place = place; level = level })) n room r last → Put (noted rule bad h) n room r last
-put-noted {n} {r} {room} {last} rule bad h place level e f p =
-    subst (λ (x : Entry). Put (entryIf bad x) n room r last) (ap₂ (λ (q : Place) (l : ℕ). record { rule = rule; place = q; level = l }) e f) p
+pub entry-made : (rule : ℕ) (h : Head) {place : Place} {level : ℕ} → place ≡ placeFrom (h .at) (h .end) → level ≡ levelNumber (levelOf rule)
+    → record { rule = rule; place = place; level = level } ≡ entryAt rule h
+entry-made rule h e f = ap₂ (λ (q : Place) (l : ℕ). record { rule = rule; place = q; level = l }) e f
+
+module _ (rule : ℕ) (bad : Bool) (h : Head) where
+  pub put-noted : {n r : ℕ} {room last : List ℕ} {e : Entry} → bad ≡ true → e ≡ entryAt rule h → Put (e ∷ []) n room r last
+      → Put (noted rule bad h) n room r last
+  unfolding entryIf
+  put-noted {n} {r} {room} {last} t q p = rw t (subst (λ (x : Entry). Put (x ∷ []) n room r last) q p)
+
+  pub put-not : (n : ℕ) (room : List ℕ) → bad ≡ false → Put (noted rule bad h) n room n room
+  unfolding entryIf
+  put-not n room t = rw t (nothing n room)
 
 counted-behind : (es fs : List Entry) (n : ℕ) → counted (es ++ fs) n ≡ counted fs (counted es n)
 unfolding counted
