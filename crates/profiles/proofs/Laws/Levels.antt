@@ -55,13 +55,13 @@ level-else (row ∷ rows) rule e =
 abbrev pub shouldRules : List ℕ
 shouldRules = []
 
-table-says : shouldRules ≡ shouldIn ruleTable
+table-says : shouldIn ruleTable ≡ shouldRules
 unfolding ifShould shouldIn
 table-says = refl
 
 pub must-else : (rule : ℕ) → isOneOf rule shouldRules ≡ false → Must ≡ levelOf rule
 unfolding levelOf
-must-else rule e = sym (level-else ruleTable rule (ap (isOneOf rule) (sym table-says) ∙ e))
+must-else rule e = sym (level-else ruleTable rule (ap (isOneOf rule) table-says ∙ e))
 
 pub level-small : (l : Level) → levelNumber l < 65536
 level-small Must = omega arith
