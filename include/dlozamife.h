@@ -41,26 +41,31 @@
 extern "C" {
 #endif
 
-/* Profiles: servers with domain and with organization validation, and delegated OCSP responders. */
+/* Profiles: servers with domain and with organization validation, delegated OCSP responders, and subordinate CAs. */
 #define DLOZAMIFE_DOMAIN 1
 #define DLOZAMIFE_ORGANIZATION 2
 #define DLOZAMIFE_RESPONDER 3
+#define DLOZAMIFE_SUBORDINATE 4
 
 /* The most octets of a certificate. */
 #define DLOZAMIFE_MOST 8192
 
 /* The octets of a finding in a report, and a room that the program which lists decks lends for a report. */
-#define DLOZAMIFE_FINDING 6
+#define DLOZAMIFE_FINDING 8
 #define DLOZAMIFE_REPORT_ROOM 65536
+
+/* The level of a finding: what its rule asks for must be so, or should. */
+#define DLOZAMIFE_MUST 1
+#define DLOZAMIFE_SHOULD 2
 
 /* The octets of a block, and a room for the blocks of any record: 33 of them. */
 #define DLOZAMIFE_BLOCK 512
 #define DLOZAMIFE_RECORD_ROOM 16896
 
 /* Lints a certificate with its issuer's, both in DER, under a profile. Answers how many findings there are, and writes
- * them to the front of the room, six octets each; the room behind them stays as it was. Every broken rule is found, once
- * for each offending item, and none besides: 0 says that no judged rule is broken. Findings rise by rule, then by start,
- * and no two are equal. Refusals: 1 to 6, and 7 where the room is shorter than six octets a finding. */
+ * them to the front of the room, eight octets each; the room behind them stays as it was. Every broken rule is found, once
+ * for each offending item, and none besides: 0 says that no judged rule is broken, of either level. Findings rise by rule,
+ * then by start, and no two are equal. Refusals: 1 to 6, and 7 where the room is shorter than eight octets a finding. */
 uint64_t dlozamife_lint(const uint8_t *certificate, size_t certificate_length, const uint8_t *issuer,
                         size_t issuer_length, uint8_t profile, uint8_t *room, size_t room_length);
 
@@ -96,8 +101,8 @@ static inline unsigned dlozamife_pair(const uint8_t *octets) {
     return (unsigned)octets[0] << 8 | octets[1];
 }
 
-/* Of finding i of a report, counted from 0 and below the answer: the rule that is broken, and the start and the whole
- * length of the element of the certificate that breaks it, or that encloses what is missing. */
+/* Of finding i of a report, counted from 0 and below the answer: the rule that is broken, the start and the whole length of
+ * the element of the certificate that breaks it, or that encloses what is missing, and the level of the rule. */
 static inline unsigned dlozamife_rule(const uint8_t *room, size_t i) {
     return dlozamife_pair(room + DLOZAMIFE_FINDING * i);
 }
@@ -108,6 +113,10 @@ static inline unsigned dlozamife_start(const uint8_t *room, size_t i) {
 
 static inline unsigned dlozamife_length(const uint8_t *room, size_t i) {
     return dlozamife_pair(room + DLOZAMIFE_FINDING * i + 4);
+}
+
+static inline unsigned dlozamife_level(const uint8_t *room, size_t i) {
+    return dlozamife_pair(room + DLOZAMIFE_FINDING * i + 6);
 }
 
 #ifdef __cplusplus

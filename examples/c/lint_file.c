@@ -42,8 +42,8 @@ static void print_refusal(uint64_t answer) {
 static void print_findings(uint64_t count, const uint8_t *report) {
     printf("findings %llu\n", (unsigned long long)count);
     for (size_t i = 0; i < count; i++) {
-        printf("  %u at %u length %u\n", dlozamife_rule(report, i), dlozamife_start(report, i),
-               dlozamife_length(report, i));
+        printf("  %u at %u length %u %s\n", dlozamife_rule(report, i), dlozamife_start(report, i),
+               dlozamife_length(report, i), dlozamife_level(report, i) == DLOZAMIFE_SHOULD ? "should" : "must");
     }
 }
 

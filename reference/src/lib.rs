@@ -14,7 +14,8 @@
 //! | `values` | RFC 5280's extension values: rules 341 to 351 |
 //! | `profile` | the four profiles, which rules they have, and the table of extensions |
 //! | `rules` | all other rules |
-//! | `report` | entries and their order |
+//! | `level` | which rules are a must and which a should |
+//! | `report` | entries, their order and their octets |
 //! | `lint` | the refusals in their order, and the answer |
 //! | `deck`, `listing` | blocks and records; what the program prints |
 
@@ -24,6 +25,7 @@
 pub mod certificate;
 pub mod deck;
 pub mod der;
+pub mod level;
 pub mod lint;
 pub mod listing;
 pub mod name;
@@ -38,6 +40,7 @@ pub mod time;
 pub mod values;
 
 pub use deck::{block_check, read_deck, write_record};
+pub use level::Level;
 pub use lint::lint;
 pub use listing::listing;
 pub use report::report_octets;
@@ -51,12 +54,14 @@ pub struct Refusal {
     pub place: usize,
 }
 
-/// One finding: the rule, and the start and whole length of the element in the certificate.
-#[derive(Clone, Copy, Debug, PartialEq, Eq, PartialOrd, Ord)]
+/// One finding: the rule, the start and whole length of the element in the certificate, and the rule's level. Entries have
+/// an order (`report`), but not by all that they hold.
+#[derive(Clone, Copy, Debug, PartialEq, Eq)]
 pub struct Entry {
     pub rule: u16,
     pub start: u16,
     pub length: u16,
+    pub level: Level,
 }
 
 /// What the linter answers.

@@ -54,7 +54,8 @@ fn has_good_length(octets: &[u8]) -> bool {
     (1..=GREATEST_LENGTH).contains(&octets.len())
 }
 
-/// Refusal 7: "Room is short when 6 bytes a finding (linter), or 512 a block (writer), exceed the lent length."
+/// Refusal 7: "Room is short when" the octets of the findings (linter), "or 512 a block (writer), exceed the lent length."
+/// "7 compares 8 octets a finding with the lent length."
 pub fn check_room(needed: usize, room: usize) -> Result<(), Refusal> {
     if needed > room {
         Err(refusal(7, 0, 0))

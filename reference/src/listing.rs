@@ -64,7 +64,8 @@ fn write_answer(lines: &mut fmt::Formatter, answer: &Answer) -> fmt::Result {
             writeln!(lines, "findings {}", entries.len())?;
             for entry in entries {
                 let (rule, start, length) = (entry.rule, entry.start, entry.length);
-                writeln!(lines, "  {rule} at {start} length {length}")?;
+                let level = entry.level.word();
+                writeln!(lines, "  {rule} at {start} length {length} {level}")?;
             }
             Ok(())
         }
@@ -82,7 +83,7 @@ fn word_for(loss: Loss) -> &'static str {
 #[cfg(test)]
 mod tests {
     use super::*;
-    use crate::write_record;
+    use crate::{write_record, Entry, Level};
 
     #[test]
     fn the_example() {
@@ -93,6 +94,34 @@ mod tests {
                      lost 2 short\n\
                      records 1 blocks 3 lost 2\n";
         assert_eq!(listing(&deck), lines.as_bytes());
+    }
+
+    #[test]
+    fn findings_alone_end_in_their_level() {
+        let finding = |rule: u16, level: Level| Entry {
+            rule,
+            start: 13,
+            length: 3,
+            level,
+        };
+        let entries = vec![finding(104, Level::Must), finding(511, Level::Should)];
+        let record = Event::Record {
+            block: 0,
+            number: 1,
+            profile: 3,
+            certificate: Vec::new(),
+            issuer: Vec::new(),
+            answer: Answer::Report(entries),
+        };
+        let listing = Listing {
+            blocks: 1,
+            events: vec![record],
+        };
+        let lines = "record 1 profile 3 findings 2\n\
+                     \x20 104 at 13 length 3 must\n\
+                     \x20 511 at 13 length 3 should\n\
+                     records 1 blocks 1 lost 0\n";
+        assert_eq!(listing.to_string(), lines);
     }
 
     #[test]

@@ -1,8 +1,9 @@
 //! Calls of the linter, and the proved linter held to the whole answer that is due: number, side and
 //! place, or the count, and every octet of the room.
 
-use reference::{lint, Answer, Entry, Refusal};
+use reference::{lint, Answer, Refusal};
 
+use crate::entries::{entries_in, ENTRY};
 use crate::hex;
 use crate::invariants::{hold_place, hold_report};
 use crate::outcome::Outcome;
@@ -143,8 +144,8 @@ fn answer_in(outcome: &Outcome) -> Result<Answer, String> {
     let number = |text: &str| text.parse::<usize>().map_err(|_| no_answer());
     match outcome.line.split(' ').collect::<Vec<&str>>().as_slice() {
         ["findings", count] => {
-            let octets = outcome.room.get(..6 * number(count)?).ok_or("more findings than fit")?;
-            Ok(Answer::Report(octets.chunks_exact(6).map(entry_of).collect()))
+            let octets = outcome.room.get(..ENTRY * number(count)?).ok_or("more findings than fit")?;
+            Ok(Answer::Report(entries_in(octets)?))
         }
         ["refused", refusal, "side", side, "at", place] => Ok(Answer::Refused(Refusal {
             number: number(refusal)? as u8,
@@ -155,15 +156,11 @@ fn answer_in(outcome: &Outcome) -> Result<Answer, String> {
     }
 }
 
-fn entry_of(octets: &[u8]) -> Entry {
-    let pair = |at: usize| u16::from_be_bytes([octets[at], octets[at + 1]]);
-    Entry { rule: pair(0), start: pair(2), length: pair(4) }
-}
-
 #[cfg(test)]
 mod tests {
     use super::{Call, Outcome, Request};
-    use reference::{Answer, Entry, Refusal};
+    use crate::entries::{entry, ENTRY};
+    use reference::{Answer, Level, Refusal};
 
     const REFUSED: Answer = Answer::Refused(Refusal { number: 7, side: 0, place: 0 });
 
@@ -175,10 +172,10 @@ mod tests {
 
     #[test]
     fn an_answer_is_read_back() {
-        let report = Answer::Report(vec![Entry { rule: 104, start: 1, length: 3 }]);
-        let call = Call::new(3, &[0; 4], &[], 8);
-        assert_eq!(Call::kinds(&Outcome::of(&report, 8)), ["findings", "rule 104"]);
-        assert_eq!(call.held_answer(&Outcome::of(&report, 8)), Ok(report));
+        let report = Answer::Report(vec![entry(104, 1, 3)]);
+        let call = Call::new(3, &[0; 4], &[], ENTRY + 2);
+        assert_eq!(Call::kinds(&Outcome::of(&report, ENTRY + 2)), ["findings", "rule 104"]);
+        assert_eq!(call.held_answer(&Outcome::of(&report, ENTRY + 2)), Ok(report));
         assert_eq!(call.in_room(2).held_answer(&Outcome::of(&REFUSED, 2)), Ok(REFUSED));
     }
 
@@ -198,5 +195,28 @@ mod tests {
             let outcome = Outcome { line: line.to_string(), room: room.to_vec() };
             assert!(call.hold_invariants(&[outcome]).is_err(), "{line}");
         }
+    }
+
+    #[test]
+    fn an_entry_of_another_level_or_place_is_told() {
+        let call = Call::new(3, &[0; 4], &[], ENTRY);
+        let answered = |room: [u8; ENTRY]| {
+            call.held_answer(&Outcome { line: "findings 1".to_string(), room: room.to_vec() })
+        };
+        assert_eq!(answered([0, 104, 0, 1, 0, 3, 0, 1]), Ok(Answer::Report(vec![entry(104, 1, 3)])));
+        for wrong in [
+            // should, no level, a level with its octets exchanged
+            [0, 104, 0, 1, 0, 3, 0, 2],
+            [0, 104, 0, 1, 0, 3, 0, 0],
+            [0, 104, 0, 1, 0, 3, 1, 0],
+            // the level in the first, the second or the third pair
+            [0, 1, 0, 104, 0, 1, 0, 3],
+            [0, 104, 0, 1, 0, 1, 0, 3],
+            // three pairs, and what the room held before
+            [0, 104, 0, 1, 0, 3, 6, 7],
+        ] {
+            assert!(answered(wrong).is_err(), "{wrong:?}");
+        }
+        assert_eq!(entry(104, 1, 3).level, Level::Must);
     }
 }

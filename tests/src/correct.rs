@@ -8,6 +8,7 @@ use crate::certificate::{
     algorithm, signature_algorithm, version, Attribute, Certificate, Extension, KeyKind, Name, RelativeName,
 };
 use crate::element::{tag, Element, Encoded, Mark};
+use crate::entries::entry;
 use crate::general_names::*;
 use crate::keys;
 use crate::object_identifiers as oid;
@@ -74,16 +75,14 @@ impl Pair {
     }
 }
 
-/// The entries that the marks of an encoding call for, in the order of a report.
+/// The entries that the marks of an encoding call for. "Entries rise by rule, then start", whatever their level.
 pub fn findings(encoded: &Encoded) -> Vec<Entry> {
-    let entry = |(mark, place): &(Mark, crate::element::Place)| match mark {
-        Mark::Breaks(rule) => {
-            Some(Entry { rule: *rule, start: place.start as u16, length: place.length as u16 })
-        }
+    let due = |(mark, place): &(Mark, crate::element::Place)| match mark {
+        Mark::Breaks(rule) => Some(entry(*rule, place.start, place.length)),
         _ => None,
     };
-    let mut entries: Vec<Entry> = encoded.marks.iter().filter_map(entry).collect();
-    entries.sort();
+    let mut entries: Vec<Entry> = encoded.marks.iter().filter_map(due).collect();
+    entries.sort_by_key(|entry| (entry.rule, entry.start));
     entries
 }
 

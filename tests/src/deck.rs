@@ -1,8 +1,9 @@
 //! Decks: records cut into blocks, and what reading and listing them must give.
 
-use reference::{Answer, Entry, Event, Loss};
+use reference::{Answer, Event, Loss};
 
 use crate::correct::Case;
+use crate::entries;
 use crate::holding::octets_needed;
 use crate::outcome::refusal_line;
 use crate::records::refused;
@@ -80,9 +81,10 @@ pub fn block(number: u32, length: u16, part: u8, data: &[u8]) -> Vec<u8> {
 
 /// The answer to a case in a room of this length: a report that does not fit is refused with 7.
 pub fn in_room(answer: &Answer, room: usize) -> Answer {
-    match answer {
-        Answer::Report(entries) if 6 * entries.len() > room => refused(7, 0, 0),
-        answer => answer.clone(),
+    if octets_needed(answer) > room {
+        refused(7, 0, 0)
+    } else {
+        answer.clone()
     }
 }
 
@@ -176,13 +178,13 @@ pub fn record_lines(number: u32, profile: u8, answer: &Answer) -> String {
     format!("record {number} profile {profile} {}", answer_lines(answer))
 }
 
-fn answer_lines(answer: &Answer) -> String {
+/// The end of a record's line, and the lines of its findings.
+pub fn answer_lines(answer: &Answer) -> String {
     match answer {
         Answer::Refused(refusal) => refusal_line(refusal) + "\n",
         Answer::Report(entries) => {
-            let line =
-                |entry: &Entry| format!("  {} at {} length {}\n", entry.rule, entry.start, entry.length);
-            format!("findings {}\n", entries.len()) + &entries.iter().map(line).collect::<String>()
+            let findings: String = entries.iter().map(entries::line_of).collect();
+            format!("findings {}\n{findings}", entries.len())
         }
     }
 }

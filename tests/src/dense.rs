@@ -114,13 +114,18 @@ pub fn dense(profile: u8, names: Names, count: usize) -> Case {
     Pair { profile, certificate, issuer: shortest() }.encode()
 }
 
-/// The densest record of a profile.
-pub fn densest(profile: u8) -> Case {
-    let names = match profile {
+/// The names of which a profile has the most findings.
+pub fn densest_names(profile: u8) -> Names {
+    match profile {
         1 | 2 => Names::Underscores,
         3 => Names::Empty,
         _ => Names::Addresses,
-    };
+    }
+}
+
+/// The densest record of a profile.
+pub fn densest(profile: u8) -> Case {
+    let names = densest_names(profile);
     dense(profile, names, names.most())
 }
 
@@ -148,12 +153,12 @@ pub fn octets_of_lines(record: &Record) -> usize {
     record_lines(record.number, record.case.profile, &record.case.expected).len()
 }
 
-/// So many records of one block take up what dense records leave of a wanted length: by the digits of their numbers, up
-/// to nine octets each.
-const FINE: usize = 6;
+/// No line of a name is longer, of either level.
+const LINE: &str = "  413 at 8189 length 3 should\n";
 
-/// No line of a name is longer.
-const LINE: &str = "  413 at 8189 length 3\n";
+/// So many records of one block take up what dense records leave of a wanted length, which is less than the lines of one
+/// name more: by the digits of their numbers, up to nine octets each.
+const FINE: usize = (2 * LINE.len()).div_ceil(9);
 
 /// Dense records, all alike but the last, and behind them some of one block, whose lines have together exactly so many
 /// octets.

@@ -6,6 +6,7 @@ use std::fmt::Debug;
 use reference::Answer;
 
 use crate::amount::say;
+use crate::entries::ENTRY;
 
 /// Room for every report there can be.
 pub const AMPLE_ROOM: usize = 65_536;
@@ -67,9 +68,9 @@ impl Comparison {
     }
 }
 
-/// "6 bytes a finding"
+/// "8 octets a finding"; a refusal needs none.
 pub fn octets_needed(answer: &Answer) -> usize {
-    6 * rules_of(answer).len()
+    ENTRY * rules_of(answer).len()
 }
 
 /// The rules of a report, in its order; of a refusal none.

@@ -8,6 +8,7 @@
 //! | `element` | the encoder: a tree of elements whose marks have places once it is encoded |
 //! | `object_identifiers`, `general_names`, `keys`, `calendar` | what certificates are made of |
 //! | `certificate`, `profile`, `correct`, `variations` | a certificate as its fields; correct ones of each profile |
+//! | `entries`, `lines` | an entry's octets and its line; the form of a listing |
 //! | `faults`, `bad_values` | faults that break known rules at known places |
 //! | `malformed` | certificates that are refused with 4, 5 or 6 at a known place |
 //! | `times` | times at every edge, and whether they are times |
@@ -43,6 +44,7 @@ pub mod damage;
 pub mod deck;
 pub mod dense;
 pub mod element;
+pub mod entries;
 pub mod faults;
 pub mod general_names;
 pub mod grammar;
@@ -50,6 +52,7 @@ pub mod hex;
 pub mod holding;
 pub mod invariants;
 pub mod keys;
+pub mod lines;
 pub mod linters;
 pub mod listers;
 pub mod malformed;

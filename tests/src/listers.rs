@@ -5,6 +5,7 @@ use reference::listing;
 use crate::amount::say;
 use crate::deck::{listing_of, Deck};
 use crate::holding::{Comparison, AMPLE_ROOM};
+use crate::lines::hold_form;
 use crate::program::Program;
 use crate::readers::MOST_OCTETS;
 
@@ -45,10 +46,11 @@ impl Listers {
         due
     }
 
-    /// Holds both listers to this listing.
+    /// Holds both listers to this listing, and every line of it to its form.
     pub fn hold_text(&mut self, what: &str, deck: &[u8], due: &str) {
         let input = || format!("a deck of {} octets", deck.len());
-        self.reference.note(what, difference(due, &listing(deck)), input);
+        let misformed = hold_form(due).err();
+        self.reference.note(what, difference(due, &listing(deck)).or(misformed), input);
         if let Some(program) = &self.program {
             let (written, said) = program.run_and_hear(&[], deck);
             let heard = (!said.is_empty()).then(|| format!("decklint said {said}"));

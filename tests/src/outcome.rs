@@ -1,6 +1,8 @@
 //! What the program `answers` writes: lines, and behind a line the room that was lent.
 
-use reference::{report_octets, Answer, Refusal};
+use reference::{Answer, Refusal};
+
+use crate::entries::{octets_of, ENTRY};
 
 /// A line, and the room as the call left it; no octet where no room is written.
 #[derive(Clone, Debug, Default, PartialEq, Eq)]
@@ -56,7 +58,7 @@ impl Outcome {
         }
         let place = self.room.iter().zip(&due.room).take_while(|(octet, due)| octet == due).count();
         let entry_at =
-            |room: &[u8]| room.iter().skip(place - place % 6).take(6).copied().collect::<Vec<u8>>();
+            |room: &[u8]| room.iter().skip(place - place % ENTRY).take(ENTRY).copied().collect::<Vec<u8>>();
         let (due_entry, entry) = (entry_at(&due.room), entry_at(&self.room));
         Some(format!(
             "{:?}: the room differs at octet {place}, where {due_entry:?} is due and it was {entry:?}",
@@ -89,7 +91,7 @@ pub fn refusal_line(Refusal { number, side, place }: &Refusal) -> String {
 /// The entries of an answer go to the front of the room, and the rest stays.
 pub fn put_report(answer: &Answer, room: &mut [u8]) {
     if let Answer::Report(entries) = answer {
-        room[..6 * entries.len()].copy_from_slice(&report_octets(entries));
+        room[..ENTRY * entries.len()].copy_from_slice(&octets_of(entries));
     }
 }
 
@@ -101,7 +103,8 @@ pub fn fresh_room(length: usize) -> Vec<u8> {
 #[cfg(test)]
 mod tests {
     use super::{first_difference, Outcome};
-    use reference::{Answer, Entry};
+    use crate::entries::entry;
+    use reference::Answer;
 
     fn of_room(line: &str, room: &[u8]) -> Outcome {
         Outcome { line: line.to_string(), room: room.to_vec() }
@@ -109,8 +112,8 @@ mod tests {
 
     #[test]
     fn a_report_stands_at_the_front_of_the_room() {
-        let report = Answer::Report(vec![Entry { rule: 104, start: 1, length: 3 }]);
-        assert_eq!(Outcome::of(&report, 8), of_room("findings 1", &[0, 104, 0, 1, 0, 3, 6, 7]));
+        let report = Answer::Report(vec![entry(104, 1, 3)]);
+        assert_eq!(Outcome::of(&report, 10), of_room("findings 1", &[0, 104, 0, 1, 0, 3, 0, 1, 8, 9]));
     }
 
     #[test]
@@ -142,10 +145,10 @@ mod tests {
 
     #[test]
     fn a_room_differs_by_an_entry() {
-        let due = [of_room("findings 2", &[0, 104, 0, 1, 0, 3, 0, 105, 0, 9, 0, 4])];
-        let wrong = [of_room("findings 2", &[0, 104, 0, 1, 0, 3, 0, 105, 0, 8, 0, 4])];
-        let told = "step 0: \"findings 2\": the room differs at octet 9, \
-                    where [0, 105, 0, 9, 0, 4] is due and it was [0, 105, 0, 8, 0, 4]";
+        let due = [of_room("findings 2", &[0, 104, 0, 1, 0, 3, 0, 1, 0, 105, 0, 9, 0, 4, 0, 1])];
+        let wrong = [of_room("findings 2", &[0, 104, 0, 1, 0, 3, 0, 1, 0, 105, 0, 9, 0, 4, 0, 2])];
+        let told = "step 0: \"findings 2\": the room differs at octet 15, \
+                    where [0, 105, 0, 9, 0, 4, 0, 1] is due and it was [0, 105, 0, 9, 0, 4, 0, 2]";
         assert_eq!(first_difference(&due, &wrong).as_deref(), Some(told));
     }
 }

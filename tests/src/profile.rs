@@ -1,4 +1,7 @@
-//! The four profiles: which rules exist in each, how each extension stands, and how long a certificate may be valid.
+//! The four profiles: which rules exist in each and how strongly they are meant, how each extension stands, and how long
+//! a certificate may be valid.
+
+use reference::Level;
 
 use crate::calendar::{Moment, DAY};
 use crate::element::Element;
@@ -138,6 +141,18 @@ pub fn existing_rules(profile: u8) -> Vec<u16> {
     rules.extend(rules_on_values(profile));
     rules.sort_unstable();
     rules
+}
+
+/// The rules that a certificate should keep; it must keep all others. "all rules so far are 1", which is must.
+pub const SHOULD: &[u16] = &[];
+
+/// The level of each entry of a rule, in every profile.
+pub fn level_of(rule: u16) -> Level {
+    if SHOULD.contains(&rule) {
+        Level::Should
+    } else {
+        Level::Must
+    }
 }
 
 pub fn has_rule(profile: u8, rule: u16) -> bool {

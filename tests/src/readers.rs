@@ -4,6 +4,7 @@
 use reference::{read_deck, Event};
 
 use crate::deck::{loss_word, Deck, BLOCK};
+use crate::entries::ENTRY;
 use crate::hex;
 use crate::holding::{Comparison, AMPLE_ROOM};
 use crate::outcome::{first_difference, fresh_room, line_of, put_report, Outcome};
@@ -198,30 +199,30 @@ pub fn some_room(deck: &Deck, random: &mut Random) -> usize {
     match random.below(64) {
         0 => AMPLE_ROOM,
         1..=7 => 0,
-        8..=15 => random.below(30),
-        _ if needs.is_empty() => random.below(30),
-        _ => (*random.choose(&needs) + random.below(15)).saturating_sub(random.below(3)),
+        8..=15 => random.below(5 * ENTRY),
+        _ if needs.is_empty() => random.below(5 * ENTRY),
+        _ => (*random.choose(&needs) + random.below(2 * ENTRY + 3)).saturating_sub(random.below(3)),
     }
 }
 
 #[cfg(test)]
 mod tests {
     use super::{Outcome, Reading, Request};
-    use reference::{Answer, Entry, Event, Loss, Refusal};
+    use crate::entries::{entry, ENTRY};
+    use reference::{Answer, Event, Loss, Refusal};
 
     fn record(block: usize, answer: Answer) -> Event {
         Event::Record { block, number: 9, profile: 3, certificate: vec![1; 4], issuer: vec![2; 5], answer }
     }
 
     fn example() -> (Reading, Vec<Outcome>) {
-        let entry = Entry { rule: 104, start: 1, length: 3 };
         let refused = Answer::Refused(Refusal { number: 7, side: 0, place: 0 });
         let events = [
-            record(0, Answer::Report(vec![entry])),
+            record(0, Answer::Report(vec![entry(104, 1, 3)])),
             Event::Lost { block: 1, loss: Loss::Unsound },
             record(2, refused),
         ];
-        let reading = Reading { deck: vec![0; 1300], room: 8 };
+        let reading = Reading { deck: vec![0; 1300], room: ENTRY + 2 };
         let steps = reading.steps_of(&events);
         (reading, steps)
     }
@@ -244,7 +245,7 @@ mod tests {
                 "records 2 blocks 3 lost 1"
             ]
         );
-        assert_eq!(steps[0].room, [0, 104, 0, 1, 0, 3, 6, 7]);
+        assert_eq!(steps[0].room, [0, 104, 0, 1, 0, 3, 0, 1, 8, 9]);
         assert_eq!(steps[2].room, steps[0].room);
         let kinds: Vec<String> = steps.iter().flat_map(Reading::kinds).collect();
         assert_eq!(kinds, ["record with findings", "lost unsound", "record refused 7", "deck"]);

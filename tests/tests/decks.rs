@@ -8,6 +8,7 @@ use comparison::deck::*;
 use comparison::element::{Element, LengthForm};
 use comparison::hex;
 use comparison::holding::Comparison;
+use comparison::lines::hold_form;
 use comparison::listers::{listing_due, Listers};
 use comparison::queue::hold_met;
 use comparison::random::Random;
@@ -35,6 +36,7 @@ const CERTIFICATES_A_DECK: usize = 20;
 
 fn hold_listing(comparison: &mut Comparison, what: &str, deck: &Deck) {
     let expected = listing_due(deck);
+    assert_eq!(hold_form(&expected), Ok(()));
     let answered = String::from_utf8(listing(&deck.octets)).expect("a listing is ASCII");
     comparison.hold(what, &expected, &answered, || format!("deck {}", hex::text(&deck.octets)));
 }

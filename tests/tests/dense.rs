@@ -3,8 +3,9 @@
 use comparison::correct::{plain, Case};
 use comparison::damage::{damages, filled_up, push_damaged, push_lost_block};
 use comparison::deck::{Deck, Record, BLOCK};
-use comparison::dense::{dense, densest, octets_of_lines, records_of_lines, Names, ALL_NAMES};
-use comparison::holding::rules_of;
+use comparison::dense::{dense, densest, densest_names, octets_of_lines, records_of_lines, Names, ALL_NAMES};
+use comparison::entries::ENTRY;
+use comparison::holding::{octets_needed, rules_of, AMPLE_ROOM};
 use comparison::listers::{listing_due, Listers};
 use comparison::profile::ALL;
 use comparison::random::Random;
@@ -14,10 +15,17 @@ use reference::Loss;
 
 /// Lines of `decklint` wait in so many octets to be written.
 const WAITING: usize = 393_216;
-/// It writes them once fewer than 327,743 octets are left.
-const WRITTEN_FROM: usize = WAITING - 327_743;
 /// What a pipe holds; `WAITING` is six times as much.
 const EDGE: usize = 65_536;
+
+/// As many findings as have room, each of the longest form, and a last line whose numbers are the greatest: no record's own line
+/// is longer. `decklint` writes what waits once there is no room for as much.
+fn longest_lines() -> usize {
+    let findings = AMPLE_ROOM / ENTRY;
+    let finding = format!("  {number} at {number} length {number} should\n", number = u16::MAX);
+    let last = format!("records {number} blocks {number} lost {number}\n", number = u64::MAX);
+    findings * finding.len() + last.len()
+}
 
 /// A deck of these records, numbered from 1.
 fn deck_of(cases: &[Case]) -> Deck {
@@ -48,6 +56,17 @@ const KNOWN: [(u8, Names, usize, usize, &[u16]); 10] = [
     (1, Names::Addresses, 15, 4_042, &[]),
 ];
 
+/// "It lends the linter 65,536 octets of room", in which 8,192 findings fit. No report reaches that: nothing has more than
+/// two findings for three octets, so the 8,192 octets of a certificate have at most 5,461; profile 2's densest has 5,413.
+/// So the program never prints refusal 7.
+fn hold_fits(case: &Case) {
+    const FIT: usize = AMPLE_ROOM / ENTRY;
+    const MOST: usize = 2 * LONGEST_SIDE / 3;
+    assert_eq!((FIT, MOST), (8_192, 5_461));
+    assert!(rules_of(&case.expected).len() <= MOST && MOST <= FIT);
+    assert!(octets_needed(&case.expected) <= AMPLE_ROOM);
+}
+
 #[test]
 fn one_to_seven_records_of_the_most_names() {
     let mut listers = Listers::of("one to seven records of the most names");
@@ -58,6 +77,7 @@ fn one_to_seven_records_of_the_most_names() {
         let each = if names == Names::Empty { count / 2 } else { count };
         let findings = others + rules.len() * each;
         assert_eq!(rules_of(&case.expected).len(), findings);
+        hold_fits(&case);
         for records in 1..=7 {
             let what = format!("{records} records of profile {profile}, {names:?}");
             let listing = listers.hold(&what, &deck_of(&vec![case.clone(); records]));
@@ -69,7 +89,7 @@ fn one_to_seven_records_of_the_most_names() {
             longest = longest.max(listing.len());
         }
     }
-    assert!(longest > 750_000, "the longest listing has {longest} octets alone");
+    assert!(longest > 1_000_000, "the longest listing has {longest} octets alone");
     listers.finish();
 }
 
@@ -183,17 +203,17 @@ fn deck_listed_in(octets: usize, profile: u8, names: Names, random: &mut Random)
 
 #[test]
 fn listings_that_end_at_an_edge() {
-    // Every edge that seven records reach, and twice as many octets as wait.
-    const SHAPES: [(u8, Names, &[usize]); 4] = [
-        (1, Names::Underscores, &[1, 2, 3, 4, 5, 6, 7, 8, 9, 10, 11, 12, 13]),
-        (2, Names::Underscores, &[6, 12]),
-        (3, Names::Empty, &[1, 6, 9]),
-        (4, Names::Addresses, &[1, 6, 9]),
-    ];
+    // Of profile 1 every edge that seven records reach; of the others the first, the last, and as many octets as wait once
+    // and twice.
+    const WAITING_EDGES: usize = WAITING / EDGE;
     let mut listers = Listers::of("listings around multiples of 65,536 octets");
     let mut random = Random::for_purpose("listings that end at an edge");
-    for (profile, names, edges) in SHAPES {
-        for edge in edges {
+    for profile in ALL {
+        let (profile, names) = (*profile, densest_names(*profile));
+        let last = 7 * octets_of_lines(&Record { number: 1, case: densest(profile) }) / EDGE;
+        let is_tried =
+            |edge: &usize| profile == 1 || *edge == 1 || *edge == last || edge % WAITING_EDGES == 0;
+        for edge in (1..=last).filter(is_tried) {
             for octets in around(edge * EDGE) {
                 let deck = deck_listed_in(octets, profile, names, &mut random);
                 let listing = listers.hold(&format!("{octets} octets of profile {profile}"), &deck);
@@ -210,7 +230,7 @@ fn more_behind_lines_that_end_at_an_edge() {
     let mut random = Random::for_purpose("more behind an edge");
     let last = Record { number: u32::MAX, case: densest(2) };
     let just_room = WAITING - octets_of_lines(&last);
-    for edge in [WRITTEN_FROM, EDGE, just_room, WAITING] {
+    for edge in [WAITING - longest_lines(), EDGE, just_room, WAITING] {
         for octets in around(edge) {
             let front = deck_of_lines(octets, 1, Names::Underscores, &mut random);
             let [mut unsound, mut stray, mut short, mut whole] = [0; 4].map(|_| front.clone());

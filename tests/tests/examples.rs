@@ -196,7 +196,8 @@ fn what_the_program_prints_for_findings() {
     let deck = write_record(1, 3, &case.certificate, &case.issuer, AMPLE_ROOM).expect("the record is good");
     let printed = String::from_utf8(listing(&deck)).expect("a listing is ASCII");
     let blocks = deck.len() / BLOCK;
-    let findings = ["record 1 profile 3 findings 2", "  102 at 13 length 3", "  104 at 13 length 3"];
+    let findings =
+        ["record 1 profile 3 findings 2", "  102 at 13 length 3 must", "  104 at 13 length 3 must"];
     let expected = format!("{}\nrecords 1 blocks {blocks} lost 0\n", findings.join("\n"));
     assert_eq!(printed, expected);
 }

@@ -1,12 +1,28 @@
 //! The header for C declares exactly the functions that the crate `export` exports, with their parameters. No
-//! compiler sees both: the archive is linked by name.
+//! compiler sees both: the archive is linked by name. Its constants and what it reads of a report are the papers', and the
+//! example in C expects what the reference finds.
 
 use std::fs;
-use std::path::Path;
+use std::path::{Path, PathBuf};
+
+use comparison::deck::{answer_lines, BLOCK};
+use comparison::entries::{entry, level_number, octets_of, ENTRY};
+use comparison::holding::AMPLE_ROOM;
+use comparison::records::LONGEST_SIDE;
+use reference::{lint, Entry, Level};
+
+fn path_of(name: &str) -> PathBuf {
+    Path::new(env!("CARGO_MANIFEST_DIR")).parent().expect("a repository").join(name)
+}
 
 fn text_of(name: &str) -> String {
-    let path = Path::new(env!("CARGO_MANIFEST_DIR")).parent().expect("a repository").join(name);
+    let path = path_of(name);
     fs::read_to_string(&path).unwrap_or_else(|e| panic!("{}: {e}", path.display()))
+}
+
+fn octets_in(name: &str) -> Vec<u8> {
+    let path = path_of(name);
+    fs::read(&path).unwrap_or_else(|e| panic!("{}: {e}", path.display()))
 }
 
 /// The text with one space between words and none at the inner side of a bracket, or before a comma.
@@ -72,6 +88,76 @@ fn declarations_in(header: &str) -> Vec<String> {
     }
     declarations.sort();
     declarations
+}
+
+/// The number that the header defines a name as; none where it defines no such name.
+fn constant(header: &str, name: &str) -> Option<usize> {
+    let definition = format!("#define {name} ");
+    header.lines().find_map(|line| line.strip_prefix(&definition)?.trim().parse().ok())
+}
+
+/// At which octet of a finding a function of the header reads a pair; none where the header has no such function.
+fn place_read_by(header: &str, function: &str) -> Option<usize> {
+    let head = format!("static inline unsigned {function}(const uint8_t *room, size_t i) {{ ");
+    let header = on_one_line(header);
+    let (_, body) = header.split_once(&head)?;
+    let (read, _) =
+        body.strip_prefix("return dlozamife_pair(room + DLOZAMIFE_FINDING * i")?.split_once("); }")?;
+    match read {
+        "" => Some(0),
+        _ => read.strip_prefix(" + ")?.parse().ok(),
+    }
+}
+
+#[test]
+fn the_header_has_the_numbers_of_the_papers() {
+    let header = text_of("include/dlozamife.h");
+    let [must, should] = [Level::Must, Level::Should].map(|level| usize::from(level_number(level)));
+    for (name, due) in [
+        ("DLOZAMIFE_FINDING", ENTRY),
+        ("DLOZAMIFE_MUST", must),
+        ("DLOZAMIFE_SHOULD", should),
+        ("DLOZAMIFE_REPORT_ROOM", AMPLE_ROOM),
+        ("DLOZAMIFE_MOST", LONGEST_SIDE),
+        ("DLOZAMIFE_BLOCK", BLOCK),
+    ] {
+        assert_eq!(constant(&header, name), Some(due), "{name}");
+    }
+}
+
+#[test]
+fn the_header_reads_each_number_of_a_finding_from_its_pair() {
+    let header = text_of("include/dlozamife.h");
+    let finding = Entry { level: Level::Should, ..entry(104, 13, 3) };
+    let octets = octets_of(&[finding]);
+    for (function, due) in [
+        ("dlozamife_rule", finding.rule),
+        ("dlozamife_start", finding.start),
+        ("dlozamife_length", finding.length),
+        ("dlozamife_level", level_number(finding.level)),
+    ] {
+        let place = place_read_by(&header, function).unwrap_or_else(|| panic!("no {function} in the header"));
+        assert_eq!(octets.get(place..place + 2), Some(&due.to_be_bytes()[..]), "{function}");
+    }
+}
+
+#[test]
+fn the_example_in_c_expects_what_the_reference_finds() {
+    let [certificate, issuer] =
+        ["server", "authority"].map(|name| octets_in(&format!("crates/deckpack/data/{name}.der")));
+    let answer = lint(&certificate, &issuer, 1, AMPLE_ROOM);
+    assert_eq!(text_of("examples/c/expected"), answer_lines(&answer));
+}
+
+#[test]
+fn places_and_numbers_are_read_from_a_header() {
+    let function = |name: &str, place: &str| {
+        let read = format!("dlozamife_pair(room + DLOZAMIFE_FINDING * i{place})");
+        format!("static inline unsigned {name}(const uint8_t *room, size_t i) {{\n    return {read};\n}}\n")
+    };
+    let header = format!("#define A 8\n#define AB 9\n{}\n{}", function("f", ""), function("g", " + 6"));
+    assert_eq!(["A", "AB", "B"].map(|name| constant(&header, name)), [Some(8), Some(9), None]);
+    assert_eq!(["f", "g", "h"].map(|name| place_read_by(&header, name)), [Some(0), Some(6), None]);
 }
 
 #[test]

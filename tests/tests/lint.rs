@@ -10,6 +10,7 @@ use comparison::calls::{Call, Linter};
 use comparison::certificate::{Certificate, Extension};
 use comparison::correct::{correct, plain, set_extension, shortest, shortest_with_every_field, Case, Pair};
 use comparison::element::{tag, Element, Part};
+use comparison::entries::ENTRY;
 use comparison::faults::{catalogue, densest, mix, Fault};
 use comparison::general_names::{dns, general_names, uri};
 use comparison::hex;
@@ -32,7 +33,7 @@ fn call(profile: u8, certificate: &[u8], issuer: &[u8], random: &mut Random) -> 
     match random.below(16) {
         0 if needed > 0 => call.in_room(needed - 1),
         1 => call.in_room(needed),
-        _ => call.in_room(needed + random.below(15)),
+        _ => call.in_room(needed + random.below(2 * ENTRY + 3)),
     }
 }
 
@@ -376,7 +377,7 @@ fn refusals_come_in_their_order_for_all_sides_profiles_and_rooms() {
     for certificate in sides(&pair.certificate) {
         for issuer in &issuers {
             for profile in [0, 1, 2, 3, 4, 5, 255] {
-                for room in [0, 1, 6, 600] {
+                for room in [0, 1, ENTRY, 600] {
                     linter.compare("sides", Call::new(profile, &certificate, issuer, room));
                 }
             }
@@ -433,14 +434,18 @@ fn a_frame_that_makes_no_call_is_told() {
 
 // Rooms
 
-/// About so many rooms are tried for each report.
-const ROOMS: usize = 23;
+/// Rooms for one finding and two, and an octet less and more.
+const SHORT_ROOMS: [usize; 8] = [0, 1, ENTRY - 1, ENTRY, ENTRY + 1, 2 * ENTRY - 1, 2 * ENTRY, 2 * ENTRY + 1];
+/// From just enough room on, so many octets to either side are tried: an entry, and one octet more.
+const TO_EITHER_SIDE: usize = ENTRY + 1;
+/// So many rooms are tried for each report, or fewer where they fall together.
+const ROOMS: usize = SHORT_ROOMS.len() + 2 * TO_EITHER_SIDE + 1;
 
 fn hold_rooms(linter: &mut Linter, what: &str, case: &Case) {
     let call = Call::new(case.profile, &case.certificate, &case.issuer, AMPLE_ROOM);
     let needed = octets_needed(&call.reference());
-    let around = needed.saturating_sub(7)..needed + 8;
-    let rooms: BTreeSet<usize> = [0, 1, 5, 6, 7, 11, 12, 13].into_iter().chain(around).collect();
+    let around = needed.saturating_sub(TO_EITHER_SIDE)..=needed + TO_EITHER_SIDE;
+    let rooms: BTreeSet<usize> = SHORT_ROOMS.into_iter().chain(around).collect();
     for room in rooms {
         linter.compare(what, call.in_room(room));
     }

@@ -42,6 +42,20 @@ fn the_sample_is_what_it_was_made_of_and_lists_as_it_says() {
 }
 
 #[test]
+fn findings_of_the_sample_alone_end_in_must() {
+    let (_, listing) = sample();
+    let (findings, others): (Vec<&str>, Vec<&str>) = listing.lines().partition(|line| line.starts_with("  "));
+    assert!(findings.len() > 10 && others.len() > 10, "{listing}");
+    for line in findings {
+        let (numbers, level) = line.rsplit_once(' ').expect("a line has words");
+        assert_eq!((level, numbers.ends_with(' ')), ("must", false), "{line:?}");
+    }
+    for line in others {
+        assert!(!line.contains("must") && !line.contains("should"), "{line:?}");
+    }
+}
+
+#[test]
 fn decks_of_every_length_at_the_limits_are_listed() {
     let mut listers = Listers::of("decks at the limits");
     let mut random = Random::for_purpose("the limits of a deck");

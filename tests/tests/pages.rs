@@ -6,6 +6,8 @@ use std::fs;
 use std::path::{Path, PathBuf};
 use std::process::Command;
 
+use comparison::lines::is_finding;
+
 /// Texts in backquotes that no rule below takes, each with the reason why it may stand there.
 const EXCEPTIONS: &[(&str, &[&str])] = &[
     (
@@ -165,12 +167,16 @@ fn is_literal(word: &str) -> bool {
 
 /// The rules, in their order. A text may stand if it is
 /// - a command line, a program's call or option, or a line of a listing, by its first word;
+/// - the line of a finding, whole;
 /// - a path: of what is there from one of the bases on, or of what is built (`target/`);
 /// - anything else of which each name is declared in the sources, or is that of a file, folder or edit. Words in
 ///   capitals are placeholders, variables of the environment or constants, and numbers and octets are no names.
 fn may_stand(text: &str, names: &BTreeSet<String>, bases: &[PathBuf]) -> bool {
     let first = text.split_whitespace().next().unwrap_or("");
     let several = text.contains(' ');
+    if text.contains(" at ") && text.contains(" length ") {
+        return is_finding(&format!("  {}", text.trim_start()));
+    }
     let is_call = several && (COMMANDS.contains(&first) || LISTED.contains(&first) || is_program(first));
     if is_call || text.starts_with("--") || COMMANDS.contains(&text) || text.starts_with("target/") {
         return true;
@@ -291,11 +297,21 @@ fn dead_names_are_told() {
         "lint(Answer, 12)",
         "rt check der",
         "lost 32 unsound",
+        "  111 at 111 length 36 must",
         "30 80 00 00",
         "at-in",
         "DLO_CASES",
     ];
-    let dead = ["lints", "lint::Answers", "lint(answer)", "losing", "at-on", "docs/NOWHERE.md"];
+    let dead = [
+        "lints",
+        "lint::Answers",
+        "lint(answer)",
+        "losing",
+        "at-on",
+        "docs/NOWHERE.md",
+        "  111 at 111 length 36",
+        "  111 at 111 length 36 should",
+    ];
     let bases = [repository()];
     assert!(live.iter().all(|text| may_stand(text, &names, &bases)), "{live:?}");
     assert!(dead.iter().all(|text| !may_stand(text, &names, &bases)), "{dead:?}");

@@ -1,18 +1,22 @@
-//! Which rule is judged in which profile: the table by numbers that the proofs stand on, the rows in which each rule has
-//! its profiles beside its number, the page for readers, and the tests' own list say the same.
+//! Which rule is judged in which profile, and at which level: the table by numbers that the proofs stand on, the rows in
+//! which each rule has its profiles beside its number, the page for readers, and the tests' own list say the same.
 
 use std::collections::BTreeMap;
 
+use comparison::entries::level_word;
 use comparison::{profile, sources};
 
-type Table = BTreeMap<u16, Vec<u8>>;
+/// Of each rule its level, as a finding's line has it, and the profiles that judge it.
+type Table = BTreeMap<u16, (String, Vec<u8>)>;
+/// Of each rule the profiles that judge it.
+type Profiles = BTreeMap<u16, Vec<u8>>;
 
 fn text_of(name: &str) -> String {
     sources::text_of(&sources::repository().join(name))
 }
 
-fn enter(table: &mut Table, rule: u16, profiles: Vec<u8>) {
-    let before = table.insert(rule, profiles);
+fn enter<Row>(table: &mut BTreeMap<u16, Row>, rule: u16, row: Row) {
+    let before = table.insert(rule, row);
     assert!(before.is_none(), "rule {rule} stands in the table twice");
 }
 
@@ -32,7 +36,7 @@ fn profiles_in(text: &str, words: &str) -> Vec<u8> {
 }
 
 /// Rows such as `104 for O ⦂ rule104 c` in the definitions of rules.
-fn written(text: &str, judged: &str, table: &mut Table) {
+fn written(text: &str, judged: &str, table: &mut Profiles) {
     for piece in text.split(" ⦂ ") {
         let Some((head, words)) = piece.rsplit_once(" for ") else { continue };
         let number = head.rsplit(char::is_whitespace).next().and_then(|word| word.parse().ok());
@@ -42,15 +46,17 @@ fn written(text: &str, judged: &str, table: &mut Table) {
     }
 }
 
-/// Rows such as `(104, O)` of the table by numbers.
+/// Rows such as `(104, Must, O)` of the table by numbers.
 fn defined(text: &str) -> Table {
     let mut table = Table::new();
     let (_, rows) = text.split_once("\nruleTable =\n").expect("the definition of the table");
     for line in rows.lines().map(str::trim).take_while(|line| *line != "∷ []") {
         let Some((_, row)) = line.split_once('(').filter(|_| !line.starts_with("--")) else { continue };
         let row = row.strip_suffix(')').expect("a row ends");
-        let (rule, profiles) = row.split_once(", ").expect("a row has a rule and its profiles");
-        enter(&mut table, rule.parse().expect("a rule"), profiles_in(text, profiles));
+        let mut words = row.splitn(3, ", ");
+        let mut word = || words.next().expect("a row has a rule, its level and its profiles");
+        let (rule, level, profiles) = (word(), word().to_lowercase(), word());
+        enter(&mut table, rule.parse().expect("a rule"), (level, profiles_in(text, profiles)));
     }
     table
 }
@@ -72,9 +78,9 @@ fn printed(text: &str) -> Table {
     for line in rows.take_while(|line| line.starts_with('|')) {
         let cells: Vec<&str> = line.trim_matches('|').split('|').map(str::trim).collect();
         let profiles: Vec<u8> =
-            (1..).zip(&cells[1..]).filter(|(_, cell)| **cell == "x").map(|(p, _)| p).collect();
+            (1..).zip(&cells[2..]).filter(|(_, cell)| **cell == "x").map(|(p, _)| p).collect();
         for rule in rules_of(cells[0]) {
-            enter(&mut table, rule, profiles.clone());
+            enter(&mut table, rule, (cells[1].to_string(), profiles.clone()));
         }
     }
     table
@@ -82,7 +88,7 @@ fn printed(text: &str) -> Table {
 
 /// The rules that some profile judges.
 fn judged(table: Table) -> Table {
-    table.into_iter().filter(|(_, profiles)| !profiles.is_empty()).collect()
+    table.into_iter().filter(|(_, (_, profiles))| !profiles.is_empty()).collect()
 }
 
 #[test]
@@ -90,10 +96,12 @@ fn the_page_and_the_tests_agree() {
     let mut own = Table::new();
     for number in profile::ALL {
         for rule in profile::existing_rules(*number) {
-            own.entry(rule).or_default().push(*number);
+            let level = level_word(profile::level_of(rule)).to_string();
+            own.entry(rule).or_insert((level, Vec::new())).1.push(*number);
         }
     }
-    println!("{} rules, {} pairs of rule and profile", own.len(), own.values().map(Vec::len).sum::<usize>());
+    let pairs: usize = own.values().map(|(_, profiles)| profiles.len()).sum();
+    println!("{} rules, {pairs} pairs of rule and profile", own.len());
     assert_eq!(judged(printed(&text_of("docs/RULES.md"))), own, "docs/RULES.md and the tests' own list");
 }
 
@@ -107,7 +115,7 @@ fn the_definition_and_the_page_agree() {
 #[test]
 fn every_rule_has_its_profiles_beside_its_number() {
     let judged = text_of("crates/profiles/specs/Judged.antt");
-    let mut rows = Table::new();
+    let mut rows = Profiles::new();
     for group in ["rules_fields", "rules_subject", "rules_key", "rules_extensions", "rules_values"] {
         let specs = sources::repository().join("crates").join(group).join("specs");
         for file in sources::files_below(&specs, "antt") {
@@ -115,8 +123,11 @@ fn every_rule_has_its_profiles_beside_its_number() {
         }
     }
     // 301 to 351 have theirs from the table of extensions, by slot
-    let by_number: Table =
-        defined(&judged).into_iter().filter(|(rule, _)| !(301..=351).contains(rule)).collect();
+    let by_number: Profiles = defined(&judged)
+        .into_iter()
+        .filter(|(rule, _)| !(301..=351).contains(rule))
+        .map(|(rule, (_, profiles))| (rule, profiles))
+        .collect();
     println!("{} rules have their profiles beside their numbers", rows.len());
     assert_eq!(rows, by_number, "the rows of the rules and crates/profiles/specs/Judged.antt");
 }

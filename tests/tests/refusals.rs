@@ -6,15 +6,16 @@ use comparison::amount::cases;
 use comparison::calls::shown_sides;
 use comparison::correct::{correct, plain, refusal, Case};
 use comparison::element::Element;
+use comparison::entries::{entry, ENTRY};
 use comparison::faults::{catalogue, densest};
 use comparison::hex;
-use comparison::holding::Comparison;
+use comparison::holding::{octets_needed, Comparison};
 use comparison::linters::Linters;
 use comparison::malformed::{malformed, with_a_broken_time, with_every_field};
 use comparison::profile::ALL;
 use comparison::random::Random;
 use comparison::records::refused;
-use reference::{lint, report_octets, Answer, Entry};
+use reference::{lint, report_octets, Answer, Entry, Level};
 
 /// How often each refusal was met, by number and side.
 type Met = BTreeMap<(u8, u8), usize>;
@@ -125,9 +126,9 @@ fn rooms(met: &mut Met) {
             fault.apply(&mut pair, &mut random);
         }
         let case = pair.encode();
-        let Answer::Report(entries) = &case.expected else { panic!("a single fault is not refused") };
-        let needed = 6 * entries.len();
-        for room in needed.saturating_sub(7)..needed + 7 {
+        assert!(matches!(case.expected, Answer::Report(_)), "a single fault is not refused");
+        let needed = octets_needed(&case.expected);
+        for room in needed.saturating_sub(ENTRY + 1)..=needed + ENTRY + 1 {
             let expected = if room < needed { refused(7, 0, 0) } else { case.expected.clone() };
             if room < needed {
                 *met.entry((7, 0)).or_default() += 1;
@@ -156,10 +157,10 @@ fn a_broken_time_is_refused_wherever_it_breaks() {
 }
 
 #[test]
-fn an_entry_is_three_pairs_of_octets_high_first() {
-    let entries =
-        [Entry { rule: 104, start: 13, length: 3 }, Entry { rule: 419, start: 0x1234, length: 0x0567 }];
-    assert_eq!(report_octets(&entries), hex::octets("0068 000D 0003 01A3 1234 0567"));
+fn an_entry_is_four_pairs_of_octets_high_first() {
+    let should = Entry { level: Level::Should, ..entry(419, 0x1234, 0x0567) };
+    let entries = [entry(104, 13, 3), should];
+    assert_eq!(report_octets(&entries), hex::octets("0068 000D 0003 0001 01A3 1234 0567 0002"));
     assert_eq!(report_octets(&[]), Vec::<u8>::new());
 }
 
@@ -190,7 +191,7 @@ fn the_densest_report_is_whole() {
     let Answer::Report(entries) = &case.expected else { panic!("it is a report") };
     assert!(entries.len() > 4500, "{} entries", entries.len());
     linters.hold("dense", &case);
-    let short = lint(&case.certificate, &case.issuer, 1, 6 * entries.len() - 1);
+    let short = lint(&case.certificate, &case.issuer, 1, octets_needed(&case.expected) - 1);
     assert_eq!(short, refused(7, 0, 0));
     linters.finish();
 }

@@ -9,6 +9,7 @@ use comparison::calls::{Call, Linter};
 use comparison::correct::{plain, Case};
 use comparison::damage::*;
 use comparison::deck::*;
+use comparison::entries::ENTRY;
 use comparison::faults::{catalogue, densest, mix, Fault};
 use comparison::hex;
 use comparison::holding::octets_needed;
@@ -211,11 +212,14 @@ fn every_block_of_a_deck_spoiled_in_every_way() {
 
 // "with the findings or the refusal that each would get alone"
 
-/// Rooms of no octet, of too few and just enough for each record, and of more.
+/// Rooms of no octet, of too few and just enough for each record, of a finding too few, and of more.
 fn rooms_for(records: &[Record]) -> Vec<usize> {
     let needs = records.iter().map(|record| octets_needed(&record.case.expected));
-    let around = needs.flat_map(|needed| [needed.saturating_sub(1), needed, needed + 1, needed + 7]);
-    let mut rooms: Vec<usize> = [0, 5, 6, 7, 13].into_iter().chain(around).collect();
+    let around = needs.flat_map(|needed| {
+        [needed.saturating_sub(ENTRY), needed.saturating_sub(1), needed, needed + 1, needed + ENTRY + 1]
+    });
+    let mut rooms: Vec<usize> =
+        [0, ENTRY - 1, ENTRY, ENTRY + 1, 2 * ENTRY + 1].into_iter().chain(around).collect();
     rooms.sort();
     rooms.dedup();
     rooms
@@ -238,7 +242,7 @@ fn steps_as_alone(records: &[Record], alone: &[Outcome], room: usize) -> Vec<Out
     for (Record { number, case }, alone) in records.iter().zip(alone) {
         let findings =
             alone.line.strip_prefix("findings ").map_or(0, |count| count.parse().expect("a count"));
-        let report: usize = 6 * findings;
+        let report: usize = ENTRY * findings;
         octets[..report].copy_from_slice(&alone.room[..report]);
         let (profile, length) = (case.profile, 3 + case.certificate.len() + case.issuer.len());
         let line = format!("record {number} profile {profile} length {length} {}", alone.line);

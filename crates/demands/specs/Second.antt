@@ -16,7 +16,7 @@ use Rattle.profiles.specs.declared.fields.Profile.{Profile}
 use Rattle.profiles.specs.declared.fields.Asked.the-variants.{For}
 use Rattle.certificate.specs.Issuer.{knownOf}
 use Rattle.report.specs.Entries.{width, decode}
-use Rattle.report.specs.Order.{In, RisingEntries}
+use Rattle.report.specs.Order.{In, RisingEntries, EntriesLevelled}
 use Rattle.report.specs.Rows.{Row, BrokenIn}
 use Rattle.report.specs.declared.sink.Entry.{Entry}
 use Rattle.rules.specs.Rules.{rulesFor}
@@ -44,7 +44,9 @@ pub record ExactReport (p : Profile) (certificate issuer room : List ℕ) (n : �
   pub once : (i j : ℕ) (d : Entry) → i < j → j < n → getD (decode n last) i d ≡ getD (decode n last) j d → ⊥
   -- "with the field or, for an absence, the enclosing structure": each at an element of the certificate, by its start and whole length
   pub elements : AtElements certificate (decode n last)
-  -- "an empty report means that no judged rule is broken"
+  -- "Every entry gets a fourth pair of octets: 1 for must, 2 for should" (document 02, CR 3): each has its rule's level
+  pub levels : EntriesLevelled (decode n last)
+  -- "an empty report means that no judged rule is broken", and it "speaks of should rules too" (CR 3): of any level
   pub empty : (n ≡ 0) ↔ ((r : Row) → In r (rulesOn p certificate issuer) → judgedBy p (r .profiles) ≡ true → r .broken ≡ [])
   -- "bytes after the last are untouched" (document 01)
   pub rest : drop (width * n) last ≡ drop (width * n) room

@@ -42,7 +42,7 @@ foundTable side d v =
 abbrev pub sideTable : ℕ → List ℕ → List RefusalRow
 sideTable side s = foundTable side (derSoundness s) (certificateVerdict s)
 
--- 7: room is short when 6 octets a finding exceed it
+-- 7: room is short when the octets of the findings, 8 each (document 02, CR 3), exceed it
 abbrev pub roomTable : List Entry → List ℕ → List RefusalRow
 roomTable es room = refusalRow tooLittleRoom onNeither 0 (not (enoughRoom es room)) ∷ []
 

@@ -41,7 +41,8 @@ table =
     ∷ shows (lostLine 2 Losses.Short) "lost 2 short\n"
     ∷ shows (totalLine (record { records = 1; lost = 2 }) 3) "records 1 blocks 3 lost 2\n"
     ∷ shows (recordLine (told 1 3 (Report 2))) "record 1 profile 3 findings 2\n"
-    ∷ shows (findingLine (record { rule = 104; place = record { start = 13; len = 3 } })) "  104 at 13 length 3\n"
+    ∷ shows (findingLine (record { rule = 104; place = record { start = 13; len = 3 }; level = 1 })) "  104 at 13 length 3 must\n"
+    ∷ shows (findingLine (record { rule = 65535; place = record { start = 8191; len = 1 }; level = 2 })) "  65535 at 8191 length 1 should\n"
     ∷ shows tooLongLine "deck too long\n"
     ∷ shows (recordLine (told 4294967295 255 (Refused (Unsound Issuer 8191)))) "record 4294967295 profile 255 refused 4 side 2 at 8191\n"
     ∷ []
@@ -54,11 +55,11 @@ abbrev handed : ℕ → Item → List ℕ → Handed
 handed position item report = record { position = position; item = item; report = report }
 
 pub all-lines : linesOf
-    (handed 0 (Items.Record (told 1 3 (Report 2))) (0 ∷ 104 ∷ 0 ∷ 13 ∷ 0 ∷ 3 ∷ 1 ∷ 0x90 ∷ 1 ∷ 0 ∷ 0 ∷ 10 ∷ [])
+    (handed 0 (Items.Record (told 1 3 (Report 2))) (0 ∷ 104 ∷ 0 ∷ 13 ∷ 0 ∷ 3 ∷ 0 ∷ 1 ∷ 1 ∷ 0x90 ∷ 1 ∷ 0 ∷ 0 ∷ 10 ∷ 0 ∷ 2 ∷ [])
     ∷ handed 4 (Items.Lost Losses.Stray) []
     ∷ handed 5 (Items.Record (told 2 1 (Refused (NotCertificate Certificate 0)))) []
     ∷ [])
-    ≡ word "record 1 profile 3 findings 2\n  104 at 13 length 3\n  400 at 256 length 10\nlost 4 stray\nrecord 2 profile 1 refused 6 side 1 at 0\n"
+    ≡ word "record 1 profile 3 findings 2\n  104 at 13 length 3 must\n  400 at 256 length 10 should\nlost 4 stray\nrecord 2 profile 1 refused 6 side 1 at 0\n"
 unfolding findingLines recordLines findingLine refusalText recordLine lostLine word decimal digitsBy decode entryOf
 all-lines = refl
 

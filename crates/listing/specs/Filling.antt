@@ -39,10 +39,13 @@ countsIn p = record { records = p .records; lost = p .lost }
 
 -- ---- a fill
 
--- so many octets hold all lines of any item whose findings fit in the linter's room (at most 81 octets for its first line and 30 for each finding), and
--- the last line too (at most 83)
+-- no finding's line has more octets: three numbers of at most five digits, the words between them, " should" and the line feed
+abbrev pub findingSpace : ℕ
+findingSpace = 37
+
+-- so many octets hold all lines of any item whose findings fit in the linter's room (at most 81 octets for its first line), and the last line too (at most 83)
 abbrev pub itemSpace : ℕ
-itemSpace = 83 + 30 * (65536 / width)
+itemSpace = 83 + findingSpace * (65536 / width)
 
 -- what a fill puts, how far the listing has come then, and whether all of it has been put
 pub record Portion : Type 0 where

@@ -1,8 +1,13 @@
 -- The lines that document 01 ("The deck") prints, each quoted from it.
-use mathlib.Core.List.{List, _++_}
+use mathlib.Core.Bool.{cond}
+use mathlib.Core.List.{List, [], _++_}
 use Prim.Native.Nat.{ℕ}
 use Prim.Native.String.{String}
+use lib.Dec.{eqb}
 use Rattle.texts.specs.Texts.{word, fieldOf}
+use Rattle.profiles.specs.Levels.{levelNumber}
+use Rattle.profiles.specs.declared.levels.Level.{Level}
+use Rattle.profiles.specs.declared.levels.Level.the-variants.{Must, Should}
 use Rattle.report.specs.declared.sink.Entry.{Entry}
 use Rattle.lint.specs.Refusals.{refusalValues}
 use Rattle.lint.specs.declared.reasons.Refusal.{Refusal}
@@ -13,9 +18,21 @@ use Rattle.reader.specs.declared.finding.Loss.the-variants.{Short, Unsound, Str
 use Rattle.reader.specs.declared.stepping.Record.{Record}
 use Rattle.reader.specs.declared.counting.Counts.{Counts}
 
--- "  104 at 13 length 3"
+-- "a printed finding ends in " must" or " should"" (document 02, CR 3)
+abbrev pub levelWord : Level → String
+levelWord Must = " must"
+levelWord Should = " should"
+
+-- the word for an entry's fourth number; what is no level has none
+abbrev pub levelText : ℕ → List ℕ
+levelText number =
+    cond (eqb number (levelNumber Must)) (word (levelWord Must))
+    (cond (eqb number (levelNumber Should)) (word (levelWord Should)) [])
+
+-- "  104 at 13 length 3", and then the level
 unfoldable pub findingLine : Entry → List ℕ
-findingLine e = fieldOf "  " (e .rule) ++ (fieldOf " at " (e .place .start) ++ (fieldOf " length " (e .place .len) ++ word "\n"))
+findingLine e =
+    fieldOf "  " (e .rule) ++ (fieldOf " at " (e .place .start) ++ (fieldOf " length " (e .place .len) ++ (levelText (e .level) ++ word "\n")))
 
 -- " refused 6 side 1 at 0"
 unfoldable pub refusalText : Refusal → List ℕ

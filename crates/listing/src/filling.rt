@@ -5,6 +5,7 @@ use crate::lines::too_long;
 use crate::lines::total_line;
 use reader::Counts;
 use reader::Item;
+use report::WIDTH;
 ghost use mathlib.Core.Path.{_≡_};
 ghost use Prim.Native.Nat.{_+_, _≤_};
 ghost use lib.Dec.{leb};
@@ -23,8 +24,11 @@ const MOST: usize = 65536;
 // A caller who reads so much of a deck can tell one that is too long.
 pub const DECK_SPACE: usize = 65537;
 
-// So many octets hold all lines of any item, and the last line.
-const ITEM: usize = 327743;
+// No finding's line has more octets.
+const FINDING: usize = 37;
+
+// So many octets hold all lines of any item whose findings fit in the linter's room, and the last line.
+const ITEM: usize = 83 + FINDING * (MOST / WIDTH);
 
 // A buffer of so many octets takes at least one item at each fill, and most listings whole.
 pub const LISTING_SPACE: usize = 393216;

@@ -10,8 +10,19 @@ use texts::field;
 use texts::word;
 ghost use Rattle.texts.specs.Putting.{Spelled};
 ghost use Rattle.report.specs.Entries.{entryOf, decode};
-ghost use Rattle.listing.specs.Lines.{findingLine, refusalText, answerText, recordLine, lostLine, totalLine, tooLongLine};
+ghost use Rattle.listing.specs.Lines.{levelText, findingLine, refusalText, answerText, recordLine, lostLine, totalLine, tooLongLine};
 ghost use Rattle.listing.specs.Listing.{findingLines, recordLines, itemLines};
+
+// The word for a level (document 02, CR 3).
+fn level_word(out: &mut [u8], n: usize, number: usize) -> usize
+    ensures { λ r. ⌜ Spelled (levelText number) n (now (out .entry)) r (now (out .exit)) ⌝ }
+{
+    match number {
+        1 => word(out, n, b" must"),
+        2 => word(out, n, b" should"),
+        _ => n,
+    }
+}
 
 // The line of entry k of a report, from 0.
 pub fn finding_line(out: &mut [u8], n: usize, report: &[u8], k: usize) -> usize
@@ -22,7 +33,8 @@ pub fn finding_line(out: &mut [u8], n: usize, report: &[u8], k: usize) -> usize
     let a = field(out, n, b"  ", e.rule);
     let b = field(out, a, b" at ", place.start);
     let c = field(out, b, b" length ", place.len);
-    word(out, c, b"\n")
+    let d = level_word(out, c, e.level);
+    word(out, d, b"\n")
 }
 
 fn refusal(out: &mut [u8], n: usize, r: Refusal) -> usize

@@ -1,5 +1,5 @@
--- Which rule is judged in which profile. Every rule says so itself, where its number stands (`_for_⦂_` in report's `Rows`); here the same by numbers, as the
--- code looks it up. No function that judges a rule could be proved if the two differed.
+-- Which rule is judged in which profile, and at which level. Of its profiles every rule says so itself, where its number stands (`_for_⦂_` in report's `Rows`);
+-- here the same by numbers, as the code looks it up. No function that judges a rule could be proved if the two differed. Its level stands here alone.
 use mathlib.Core.Bool.{Bool, cond}
 use mathlib.Core.List.{List, [], _∷_}
 use Prim.Native.Nat.{ℕ}
@@ -7,6 +7,8 @@ use lib.Dec.{eqb}
 use Rattle.octets.specs.Octets.{isOneOf}
 use Rattle.profiles.specs.Fields.{profileNumber}
 use Rattle.profiles.specs.declared.fields.Profile.{Profile}
+use Rattle.profiles.specs.declared.levels.Level.{Level}
+use Rattle.profiles.specs.declared.levels.Level.the-variants.{Must}
 
 -- "S is profiles 1 and 2, O is 3"
 abbrev pub S : List ℕ
@@ -31,118 +33,121 @@ serverAndSubordinate = 1 ∷ 2 ∷ subordinate
 abbrev pub everyProfile : List ℕ
 everyProfile = 1 ∷ 2 ∷ 3 ∷ subordinate
 
--- a rule, and the profiles that judge it
-abbrev pub ruleTable : List (ℕ × List ℕ)
+-- a rule, its level, and the profiles that judge it: "all rules so far are 1", which is must (CR 3)
+abbrev pub ruleTable : List (ℕ × Level × List ℕ)
 ruleTable =
     -- fields
-    (101, everyProfile)
-    ∷ (102, everyProfile)
-    ∷ (103, everyProfile)
-    ∷ (104, O)
-    ∷ (105, everyProfile)
-    ∷ (106, everyProfile)
-    ∷ (107, everyProfile)
-    ∷ (108, everyProfile)
-    ∷ (109, everyProfile)
-    ∷ (110, everyProfile)
-    ∷ (111, everyProfile)
+    (101, Must, everyProfile)
+    ∷ (102, Must, everyProfile)
+    ∷ (103, Must, everyProfile)
+    ∷ (104, Must, O)
+    ∷ (105, Must, everyProfile)
+    ∷ (106, Must, everyProfile)
+    ∷ (107, Must, everyProfile)
+    ∷ (108, Must, everyProfile)
+    ∷ (109, Must, everyProfile)
+    ∷ (110, Must, everyProfile)
+    ∷ (111, Must, everyProfile)
     -- subject
-    ∷ (112, everyProfile)
-    ∷ (113, everyProfile)
-    ∷ (114, everyProfile)
-    ∷ (115, everyProfile)
-    ∷ (116, 2 ∷ 3 ∷ subordinate)
-    ∷ (117, 2 ∷ 3 ∷ subordinate)
-    ∷ (118, 2 ∷ [])
-    ∷ (119, 2 ∷ [])
-    ∷ (120, S)
-    ∷ (121, O)
-    ∷ (122, subordinate)
+    ∷ (112, Must, everyProfile)
+    ∷ (113, Must, everyProfile)
+    ∷ (114, Must, everyProfile)
+    ∷ (115, Must, everyProfile)
+    ∷ (116, Must, 2 ∷ 3 ∷ subordinate)
+    ∷ (117, Must, 2 ∷ 3 ∷ subordinate)
+    ∷ (118, Must, 2 ∷ [])
+    ∷ (119, Must, 2 ∷ [])
+    ∷ (120, Must, S)
+    ∷ (121, Must, O)
+    ∷ (122, Must, subordinate)
     -- key
-    ∷ (201, everyProfile)
-    ∷ (202, serverAndResponder)
-    ∷ (203, S)
-    ∷ (204, everyProfile)
-    ∷ (205, serverAndResponder)
-    ∷ (206, serverAndResponder)
-    ∷ (207, O)
-    ∷ (208, subordinate)
+    ∷ (201, Must, everyProfile)
+    ∷ (202, Must, serverAndResponder)
+    ∷ (203, Must, S)
+    ∷ (204, Must, everyProfile)
+    ∷ (205, Must, serverAndResponder)
+    ∷ (206, Must, serverAndResponder)
+    ∷ (207, Must, O)
+    ∷ (208, Must, subordinate)
     -- an extension that is missing (300 + slot)
-    ∷ (301, everyProfile)
-    ∷ (302, serverAndSubordinate)
-    ∷ (303, everyProfile)
-    ∷ (304, everyProfile)
-    ∷ (305, everyProfile)
-    ∷ (306, everyProfile)
-    ∷ (307, S)
-    ∷ (308, everyProfile)
-    ∷ (309, subordinate)
-    ∷ (310, O)
-    ∷ (311, subordinate)
+    ∷ (301, Must, everyProfile)
+    ∷ (302, Must, serverAndSubordinate)
+    ∷ (303, Must, everyProfile)
+    ∷ (304, Must, everyProfile)
+    ∷ (305, Must, everyProfile)
+    ∷ (306, Must, everyProfile)
+    ∷ (307, Must, S)
+    ∷ (308, Must, everyProfile)
+    ∷ (309, Must, subordinate)
+    ∷ (310, Must, O)
+    ∷ (311, Must, subordinate)
     -- its criticality (320 + slot)
-    ∷ (321, everyProfile)
-    ∷ (322, serverAndSubordinate)
-    ∷ (323, everyProfile)
-    ∷ (324, everyProfile)
-    ∷ (325, everyProfile)
-    ∷ (326, everyProfile)
-    ∷ (327, everyProfile)
-    ∷ (328, everyProfile)
-    ∷ (329, everyProfile)
-    ∷ (330, O)
-    ∷ (331, subordinate)
+    ∷ (321, Must, everyProfile)
+    ∷ (322, Must, serverAndSubordinate)
+    ∷ (323, Must, everyProfile)
+    ∷ (324, Must, everyProfile)
+    ∷ (325, Must, everyProfile)
+    ∷ (326, Must, everyProfile)
+    ∷ (327, Must, everyProfile)
+    ∷ (328, Must, everyProfile)
+    ∷ (329, Must, everyProfile)
+    ∷ (330, Must, O)
+    ∷ (331, Must, subordinate)
     -- its value (340 + slot)
-    ∷ (341, everyProfile)
-    ∷ (342, serverAndSubordinate)
-    ∷ (343, everyProfile)
-    ∷ (344, everyProfile)
-    ∷ (345, everyProfile)
-    ∷ (346, everyProfile)
-    ∷ (347, everyProfile)
-    ∷ (348, everyProfile)
-    ∷ (349, everyProfile)
-    ∷ (350, O)
-    ∷ (351, subordinate)
+    ∷ (341, Must, everyProfile)
+    ∷ (342, Must, serverAndSubordinate)
+    ∷ (343, Must, everyProfile)
+    ∷ (344, Must, everyProfile)
+    ∷ (345, Must, everyProfile)
+    ∷ (346, Must, everyProfile)
+    ∷ (347, Must, everyProfile)
+    ∷ (348, Must, everyProfile)
+    ∷ (349, Must, everyProfile)
+    ∷ (350, Must, O)
+    ∷ (351, Must, subordinate)
     -- extensions by their identifiers
-    ∷ (361, everyProfile)
-    ∷ (362, O)
-    ∷ (363, S)
+    ∷ (361, Must, everyProfile)
+    ∷ (362, Must, O)
+    ∷ (363, Must, S)
     -- what values say
-    ∷ (401, everyProfile)
-    ∷ (402, S)
-    ∷ (403, everyProfile)
-    ∷ (404, serverAndResponder)
-    ∷ (405, serverAndResponder)
-    ∷ (407, everyProfile)
-    ∷ (408, serverAndResponder)
-    ∷ (409, everyProfile)
-    ∷ (410, serverAndSubordinate)
-    ∷ (411, serverAndResponder)
-    ∷ (412, serverAndResponder)
-    ∷ (413, serverAndSubordinate)
-    ∷ (414, serverAndResponder)
-    ∷ (415, serverAndSubordinate)
-    ∷ (416, everyProfile)
-    ∷ (417, serverAndSubordinate)
-    ∷ (418, everyProfile)
-    ∷ (419, everyProfile)
-    ∷ (421, subordinate)
-    ∷ (422, subordinate)
-    ∷ (423, subordinate)
-    ∷ (424, subordinate)
+    ∷ (401, Must, everyProfile)
+    ∷ (402, Must, S)
+    ∷ (403, Must, everyProfile)
+    ∷ (404, Must, serverAndResponder)
+    ∷ (405, Must, serverAndResponder)
+    ∷ (407, Must, everyProfile)
+    ∷ (408, Must, serverAndResponder)
+    ∷ (409, Must, everyProfile)
+    ∷ (410, Must, serverAndSubordinate)
+    ∷ (411, Must, serverAndResponder)
+    ∷ (412, Must, serverAndResponder)
+    ∷ (413, Must, serverAndSubordinate)
+    ∷ (414, Must, serverAndResponder)
+    ∷ (415, Must, serverAndSubordinate)
+    ∷ (416, Must, everyProfile)
+    ∷ (417, Must, serverAndSubordinate)
+    ∷ (418, Must, everyProfile)
+    ∷ (419, Must, everyProfile)
+    ∷ (421, Must, subordinate)
+    ∷ (422, Must, subordinate)
+    ∷ (423, Must, subordinate)
+    ∷ (424, Must, subordinate)
     ∷ []
 
 -- every rule's number is below this
 abbrev pub ruleLimit : ℕ
 ruleLimit = 425
 
--- what the table says of a rule; of what is no rule it says no profile
-unfoldable pub rowOf : List (ℕ × List ℕ) → ℕ → List ℕ
-rowOf [] rule = []
-rowOf (row ∷ rows) rule = cond (eqb rule (row .0)) (row .1) (rowOf rows rule)
+-- what the table says of a rule; of what is no rule it says no profile, so that no entry has its level
+unfoldable pub rowOf : List (ℕ × Level × List ℕ) → ℕ → Level × List ℕ
+rowOf [] rule = (Must, [])
+rowOf (row ∷ rows) rule = cond (eqb rule (row .0)) (row .1, row .2) (rowOf rows rule)
+
+unfoldable pub levelOf : ℕ → Level
+levelOf rule = rowOf ruleTable rule .0
 
 unfoldable pub judgedIn : ℕ → List ℕ
-judgedIn rule = rowOf ruleTable rule
+judgedIn rule = rowOf ruleTable rule .1
 
 -- the profile is one of these
 unfoldable pub judgedBy : Profile → List ℕ → Bool

@@ -1,8 +1,9 @@
 // The profiles, and what sets them apart: which rules they judge, and small tables of what they ask, so that a rule is
-// written once for all of them.
+// written once for all of them. And the level of each rule.
 mod extensions;
 mod fields;
 mod judged;
+mod levels;
 mod values;
 
 pub use extensions::Criticality;
@@ -21,6 +22,9 @@ pub use fields::profile_of;
 pub use fields::takes_curves;
 pub use fields::takes_utf8;
 pub use judged::holds;
+pub use levels::Level;
+pub use levels::level_number;
+pub use levels::level_of;
 pub use values::allows_purpose;
 pub use values::usage_with_curve;
 pub use values::usage_with_rsa;

@@ -1,5 +1,5 @@
--- The findings in lent room: "Room is short when 6 bytes a finding exceed the lent length" (document 01, "Refusals and their order"), and "Bytes
--- after the last are untouched" ("The report").
+-- The findings in lent room: "Room is short when 6 bytes a finding exceed the lent length" (document 01, "Refusals and their order"), where 7 now "compares 8
+-- octets a finding" (document 02, CR 3), and "Bytes after the last are untouched" ("The report").
 use mathlib.Core.List.{List, _++_}
 use mathlib.Core.Bool.{Bool, cond}
 use Prim.Native.Nat.{ℕ, _*_}

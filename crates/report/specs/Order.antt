@@ -1,9 +1,11 @@
--- "Entries rise by rule, then start; no two are equal" (document 01, "The report"), and every entry is in the certificate.
+-- "Entries rise by rule, then start; no two are equal" (document 01, "The report"), every entry is in the certificate, and has its rule's level.
 use mathlib.Core.List.{List, [], _∷_, List·Memᴰ}
 use mathlib.Core.Logic.{_⊎_}
 use mathlib.Core.Path.{_≡_}
 use Prim.Native.Nat.{ℕ, _+_, _≤_, _<_}
 use Rattle.report.specs.declared.sink.Entry.{Entry}
+use Rattle.profiles.specs.Judged.{levelOf}
+use Rattle.profiles.specs.Levels.{levelNumber}
 
 -- x is one of the list
 abbrev pub In : {A : Type 0} → A → List A → Type 0
@@ -27,3 +29,7 @@ pub record Ordered (from to : ℕ) (es : List Entry) : Type 0 where
 -- each entry's place lies in the octets before limit
 abbrev pub EntriesInside : List Entry → ℕ → Type 0
 EntriesInside es limit = (e : Entry) → In e es → e .place .start + e .place .len ≤ limit
+
+-- each entry says "must" or "should" as its rule does: "1 for must, 2 for should" (document 02, CR 3)
+abbrev pub EntriesLevelled : List Entry → Type 0
+EntriesLevelled es = (e : Entry) → In e es → e .level ≡ levelNumber (levelOf (e .rule))

@@ -2,16 +2,16 @@
 use mathlib.Core.List.{List, [], _∷_}
 use mathlib.Core.Path.{_≡_}
 use mathlib.Core.Bool.{cond}
-use Prim.Native.Nat.{ℕ, _+_, _*_, _^_}
+use Prim.Native.Nat.{ℕ, _+_, _*_, _/_, _^_}
 use lib.Dec.{ltb, leb}
 use lib.ListN.{length}
 use lib.Seq.{sets}
 use Rattle.report.specs.declared.sink.Entry.{Entry}
 use Rattle.report.specs.Entries.{width, entryOctets}
 
--- A count goes no further than 2 ^ 61: so many entries take more octets than any room has.
+-- A count goes no further: so many entries take more octets than any room has, which are fewer than 2 ^ 63.
 abbrev pub cap : ℕ
-cap = 2 ^ 61
+cap = 2 ^ 63 / width
 
 -- the count after one entry more
 unfoldable pub tick : ℕ → ℕ

@@ -13,6 +13,7 @@ pub fn read_entry(report: &[u8], k: usize) -> Entry
         return Entry {
             rule: 0,
             place: Place::NONE,
+            level: 0,
         };
     }
     let at = WIDTH * k;
@@ -23,5 +24,6 @@ pub fn read_entry(report: &[u8], k: usize) -> Entry
     Entry {
         rule: octets::pair(report, at),
         place: place,
+        level: octets::pair(report, at + 6),
     }
 }

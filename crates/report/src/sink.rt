@@ -10,21 +10,22 @@ ghost use lib.Dec.{leb};
 ghost use lib.ListN.{length};
 ghost use lib.Seq.{sets};
 ghost use Rattle.octets.specs.Numbers.{pairOf};
-ghost use Rattle.report.specs.Entries.{width, entryIf, noted};
+ghost use Rattle.report.specs.Entries.{width, entryAt, noted};
 ghost use Rattle.report.specs.Putting.{Put, tick};
 ghost use Rattle.report.specs.Rows.{_⦂_, brokenAt, Puts};
 
-// A finding: the rule, and the place of the element that breaks it.
+// A finding: the rule, the place of the element that breaks it, and the number of the rule's level.
 pub struct Entry {
     pub rule: usize,
     pub place: Place,
+    pub level: usize,
 }
 
 // The octets of an entry.
-pub const WIDTH: usize = 6;
+pub const WIDTH: usize = 8;
 
-// No count goes further: so many entries pass any room.
-const CAP: usize = 2305843009213693952;
+// No count goes further: so many entries pass any room, which has fewer than 2^63 octets.
+const CAP: usize = 9223372036854775808 / WIDTH;
 
 // Whether so many entries do not exceed room of so many octets.
 pub fn has_room(count: usize, room: usize) -> bool
@@ -62,35 +63,33 @@ pub fn put(room: &mut [u8], n: usize, e: Entry) -> usize
         write_pair(room, at, e.rule);
         write_pair(room, at + 2, place.start);
         write_pair(room, at + 4, place.len);
+        write_pair(room, at + 6, e.level);
         return n + 1;
     }
     one_more(n)
 }
 
-// The same where `bad`, and nothing where not.
-pub fn put_if(room: &mut [u8], n: usize, bad: bool, e: Entry) -> usize
-    ensures { λ r. ⌜ Put (entryIf bad e) n (now (room .entry)) r (now (room .exit)) ⌝ }
+// The entry of a rule at an element.
+fn entry_at(rule: usize, h: Head) -> Entry
+    ensures { λ r. ⌜ r ≡ entryAt rule h ⌝ }
 {
-    if bad {
-        return put(room, n, e);
+    let place = Place::element(h.at, h.end);
+    let level = profiles::level_of(rule);
+    Entry {
+        rule: rule,
+        place: place,
+        level: profiles::level_number(level),
     }
-    n
 }
 
 // What a rule does that judges one element: an entry at it where it is bad.
 pub fn note(room: &mut [u8], n: usize, rule: usize, bad: bool, h: Head) -> usize
     ensures { λ r. ⌜ Put (noted rule bad h) n (now (room .entry)) r (now (room .exit)) ⌝ }
 {
-    let place = Place::element(h.at, h.end);
-    put_if(
-        room,
-        n,
-        bad,
-        Entry {
-            rule: rule,
-            place: place,
-        },
-    )
+    if bad {
+        return put(room, n, entry_at(rule, h));
+    }
+    n
 }
 
 // What a rule does that judges one element: an entry at it where it is bad, in a profile that judges the rule.

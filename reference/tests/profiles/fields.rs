@@ -132,14 +132,7 @@ fn exponents() {
     draft.key = rsa_key(&modulus(), &[3]);
     let entries = report(&draft.encoded(), 1);
     let start = place_of(&with_low, &draft.encoded()) + with_low.len() - 3;
-    assert_eq!(
-        entries,
-        [Entry {
-            rule: 206,
-            start: start as u16,
-            length: 3
-        }]
-    );
+    assert_eq!(entries, [finding(206, start, 3)]);
 }
 
 #[test]

@@ -8,7 +8,7 @@ mod validity;
 mod values;
 
 use draft::*;
-use reference::{lint, Answer, Entry, Refusal};
+use reference::{lint, Answer, Entry, Level, Refusal};
 
 fn report(certificate: &[u8], profile: u8) -> Vec<Entry> {
     match lint(certificate, &issuer(), profile, 65_536) {
@@ -32,13 +32,19 @@ fn expect(profile: u8, change: impl FnOnce(&mut Draft), findings: &[(u16, &[u8])
     let certificate = draft.encoded();
     let wanted: Vec<Entry> = findings
         .iter()
-        .map(|&(rule, item)| Entry {
-            rule,
-            start: place_of(item, &certificate) as u16,
-            length: item.len() as u16,
-        })
+        .map(|&(rule, item)| finding(rule, place_of(item, &certificate), item.len()))
         .collect();
     assert_eq!(report(&certificate, profile), wanted);
+}
+
+/// The entry for an element of this place and whole length. "all rules so far are 1", which is must
+fn finding(rule: u16, start: usize, length: usize) -> Entry {
+    Entry {
+        rule,
+        start: start as u16,
+        length: length as u16,
+        level: Level::Must,
+    }
 }
 
 #[track_caller]

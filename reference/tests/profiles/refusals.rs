@@ -101,10 +101,12 @@ fn refusals_in_their_order() {
     assert_eq!(number(&good_one, &sound, 1, 0), (6, 2, 0));
 
     // The certificate as its own issuer breaks 108 and 401.
-    assert_eq!(number(&good_one, &good_one, 1, 11), (7, 0, 0));
-    assert!(matches!(
-        lint(&good_one, &good_one, 1, 12),
-        Answer::Report(_)
-    ));
+    for room in 0..16 {
+        assert_eq!(number(&good_one, &good_one, 1, room), (7, 0, 0));
+    }
+    let Answer::Report(entries) = lint(&good_one, &good_one, 1, 16) else {
+        panic!("two findings fit into 16 octets");
+    };
+    assert_eq!([108, 401], [entries[0].rule, entries[1].rule]);
     assert_eq!(lint(&good_one, &issuer(), 1, 0), Answer::Report(vec![]));
 }

@@ -62,11 +62,7 @@ pub fn expect_value(profile: u8, dotted: &str, value: &[u8], rules: &[u16]) {
     let place = place_of(&whole, &certificate) + whole.len() - element(4, value).len();
     let wanted: Vec<Entry> = rules
         .iter()
-        .map(|&rule| Entry {
-            rule,
-            start: place as u16,
-            length: element(4, value).len() as u16,
-        })
+        .map(|&rule| finding(rule, place, element(4, value).len()))
         .collect();
     assert_eq!(report(&certificate, profile), wanted);
 }

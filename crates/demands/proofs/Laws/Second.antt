@@ -13,13 +13,13 @@ use Rattle.profiles.specs.declared.fields.Profile.{Profile}
 use Rattle.certificate.specs.Issuer.{knownOf}
 use Rattle.report.specs.Answers.{enoughRoom, filled}
 use Rattle.report.specs.Entries.{width, reportOctets, decode}
-use Rattle.report.specs.Order.{In}
+use Rattle.report.specs.Order.{In, EntriesLevelled}
 use Rattle.report.specs.Rows.{Row}
 use Rattle.report.specs.declared.sink.Entry.{Entry}
 use Rattle.report.proofs.Laws.Passes.{filled-written, report-long}
 use Rattle.report.proofs.Laws.Order.{not-equal}
 use Rattle.rules.specs.Rules.{findings}
-use Rattle.rules.proofs.Laws.Findings.{finding-in, none-broken, findings-ordered}
+use Rattle.rules.proofs.Laws.Findings.{finding-in, none-broken, findings-ordered, findings-levelled}
 use Rattle.lint.specs.Judging.{judgementOf}
 use Rattle.lint.specs.Answers.{answerBy, answerOf, roomOf}
 use Rattle.lint.specs.declared.judging.Judgement.{Judgement}
@@ -99,6 +99,7 @@ module _ (p : Profile) (certificate issuer : List ℕ) (profile : ℕ) (room : L
         rising = rw read rises;
         once = λ i k d l m same. not-equal {es = es} i k d rises l (subst (λ (x : ℕ). k < x) counted m) (rw read at same);
         elements = places certificate issuer profile .report-elements room n told;
+        levels = subst EntriesLevelled (sym read) (findings-levelled p certificate issuer);
         empty = let a = none n es counted in
             (λ z. no-rule .0 (a .0 z), λ h. a .1 (no-rule .1 h));
         rest = untouched;

@@ -12,7 +12,7 @@ use Rattle.report.specs.Answers.{enoughRoom, filled}
 use Rattle.report.specs.Entries.{decode}
 use Rattle.report.proofs.Laws.Reading.{report-back}
 use Rattle.rules.specs.Rules.{findings}
-use Rattle.rules.proofs.Laws.Findings.{findings-ordered, findings-inside}
+use Rattle.rules.proofs.Laws.Findings.{findings-ordered, findings-inside, findings-levelled}
 use Rattle.lint.specs.Judging.{judgementOf}
 use Rattle.lint.specs.declared.judging.Judgement.the-variants.{Accepted}
 use Rattle.lint.proofs.Laws.Accepted.{accepted-fits, accepted-short}
@@ -23,4 +23,4 @@ pub findings-back : (p : Profile) (s issuer : List ℕ) (profile : ℕ) (room : 
 findings-back p s issuer profile room e f =
     let short = accepted-short s issuer profile p e in
     let v = accepted-fits s issuer profile p e in
-    report-back room (findings-ordered p s issuer v) (omega arith) (findings-inside p s issuer v) (omega arith) f
+    report-back room (findings-ordered p s issuer v) (omega arith) (findings-inside p s issuer v) (omega arith) (findings-levelled p s issuer) f

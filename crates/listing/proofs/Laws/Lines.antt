@@ -5,15 +5,18 @@
 -- Assumes nothing.
 use mathlib.Core.Path.{_≡_, refl}
 use mathlib.Core.Bool.{Bool, true, false, cond}
-use mathlib.Core.List.{List}
+use mathlib.Core.List.{List, []}
 use Prim.Native.Nat.{ℕ, zero, suc, _+_, _*_, _^_, _≤_, _<_}
 use native.Mathlib.Omega.{arith}
 use lib.ListN.{length, length-append}
-use lib.Dec.{ltb}
-use Rattle.listing.specs.Lines.{findingLine, refusalText, answerText, recordLine, lostLine, totalLine, tooLongLine}
+use lib.Dec.{ltb, eqb}
+use Rattle.listing.specs.Lines.{levelWord, levelText, findingLine, refusalText, answerText, recordLine, lostLine, totalLine, tooLongLine}
+use Rattle.listing.specs.Filling.{findingSpace}
 use Rattle.listing.specs.Listing.{findingLines, reportedEntries, recordLines, itemLines}
 use Rattle.texts.specs.Texts.{word, decimal}
 use Rattle.octets.specs.Octets.{Octets}
+use Rattle.profiles.specs.Levels.{levelNumber}
+use Rattle.profiles.specs.declared.levels.Level.the-variants.{Must, Should}
 use Rattle.report.specs.Entries.{width, entryOf, decode}
 use Rattle.report.specs.declared.sink.Entry.{Entry}
 use Rattle.lint.specs.Refusals.{refusalValues}
@@ -35,9 +38,20 @@ use Rattle.report.proofs.Laws.Reading.{Small, entry-small, decode-none}
 use Rattle.listing.proofs.Laws.Findings.{findings-next}
 use Rattle.reader.specs.declared.stepping.Item.the-variants as Items
 
-pub finding-long : (e : Entry) → Small e → length (findingLine e) ≤ 30
+level-long : (number : ℕ) → length (levelText number) ≤ 7
+unfolding word
+level-long number = go (eqb number (levelNumber Must)) (eqb number (levelNumber Should))
+  where
+    go : (a b : Bool) → length (cond a (word (levelWord Must)) (cond b (word (levelWord Should)) [])) ≤ 7
+    go true b = omega arith
+    go false true = omega arith
+    go false false = omega arith
+
+pub finding-long : (e : Entry) → Small e → length (findingLine e) ≤ findingSpace
 unfolding findingLine word
-finding-long e k = simp length-append (omega (arith, digits (e .rule) (k .0), digits (e .place .start) (k .1), digits (e .place .len) (k .2)))
+finding-long e k =
+    simp length-append
+    (omega (arith, digits (e .rule) (k .0), digits (e .place .start) (k .1), digits (e .place .len) (k .2), level-long (e .level)))
   where
     digits : (n : ℕ) → n < 65536 → length (decimal n) ≤ 5
     digits n h = decimal-long n 5 (omega arith) (omega arith)
@@ -81,7 +95,7 @@ record-long r n p h =
 -- ---- all lines of an item
 
 -- each is an octet
-pub findings-long : (k : ℕ) (s : List ℕ) → Octets s → length (findingLines (decode k s)) ≤ 30 * k
+pub findings-long : (k : ℕ) (s : List ℕ) → Octets s → length (findingLines (decode k s)) ≤ findingSpace * k
 unfolding findingLines
 findings-long zero s o = rw (decode-none s) (omega arith)
 findings-long (suc k) s o =
@@ -104,13 +118,13 @@ Held (Items.Record r) = (r .number < 2 ^ 64) × (r .profile < 256) × (numberIn 
 Held (Items.Lost loss) = Unit {0}
 Held Items.End = Unit {0}
 
-entries-long : (a : Answer) (s : List ℕ) → Octets s → length (findingLines (reportedEntries a s)) ≤ 30 * countOf a
+entries-long : (a : Answer) (s : List ℕ) → Octets s → length (findingLines (reportedEntries a s)) ≤ findingSpace * countOf a
 unfolding findingLines
 entries-long (Report count) s o = findings-long count s o
 entries-long (Refused r) s o = omega arith
 
 pub item-long : (position : ℕ) (item : Item) (s : List ℕ) → position < 2 ^ 64 → Held item → Octets s
-    → length (itemLines position item s) ≤ 81 + 30 * countIn item
+    → length (itemLines position item s) ≤ 81 + findingSpace * countIn item
 unfolding recordLines
 item-long position (Items.Record r) s h k o =
     let line = record-long r (k .0) (k .1) (k .2) in

@@ -4,19 +4,27 @@
 --     room-program     the program lends 65,536 octets of room
 --     printed-listing, printed-too-long     what is printed: the listing in any room of 65,536 octets, or one line
 --     found-entries    of a record that is accepted, the entries whose lines are listed are its findings
+--     level-said       and each of these lines ends in the word of its rule's level
 -- Assumes nothing.
-use mathlib.Core.Path.{_≡_, refl, sym, ap, ap₂, _∙_}
+use mathlib.Core.Path.{_≡_, refl, sym, ap, ap₂, subst, _∙_}
 use mathlib.Core.List.{List, [], _∷_, _++_}
 use mathlib.Core.Bool.{true}
 use Prim.Native.Nat.{ℕ, _≤_, _<_}
 use lib.ListN.{length, length-replicate}
 use borrow.Author.Tests.{le-leb, lt-leb}
-use Rattle.listing.specs.Lines.{recordLine, totalLine, tooLongLine}
+use Rattle.listing.specs.Lines.{levelWord, levelText, recordLine, totalLine, tooLongLine}
 use Rattle.listing.specs.Listing.{findingLines, reportedEntries, recordLines, itemLines, linesOf, listingOf, programRoom, printed}
+use Rattle.texts.specs.Texts.{word}
 use Rattle.report.specs.declared.sink.Entry.{Entry}
 use Rattle.report.specs.Answers.{enoughRoom}
+use Rattle.report.specs.Order.{In}
+use Rattle.profiles.specs.Judged.{levelOf}
+use Rattle.profiles.specs.Levels.{levelNumber}
 use Rattle.profiles.specs.declared.fields.Profile.{Profile}
+use Rattle.profiles.specs.declared.levels.Level.{Level}
+use Rattle.profiles.specs.declared.levels.Level.the-variants.{Must, Should}
 use Rattle.rules.specs.Rules.{findings}
+use Rattle.rules.proofs.Laws.Findings.{findings-levelled}
 use Rattle.lint.specs.Judging.{judgementOf}
 use Rattle.lint.specs.Answers.{answerTo, answerOf, roomOf, reportOf}
 use Rattle.lint.specs.declared.judging.Judgement.the-variants.{Accepted}
@@ -67,8 +75,18 @@ printed-too-long deck h = rw (lt-leb (length deck) 65536 h)
 
 -- ---- a record's findings
 
+level-word : (l : Level) → levelText (levelNumber l) ≡ word (levelWord l)
+level-word Must = refl
+level-word Should = refl
+
 module _ (p : Profile) (certificate issuer room : List ℕ) (profile : ℕ)
     (j : judgementOf certificate issuer profile ≡ Accepted p) (f : enoughRoom (findings p certificate issuer) room ≡ true) where
   pub found-entries : reportedEntries (answerOf certificate issuer profile room) (roomOf certificate issuer profile room) ≡ findings p certificate issuer
   unfolding answerOf roomOf answerTo
   found-entries = rw (j, f) (findings-back p certificate issuer profile room j f)
+
+  pub level-said : (e : Entry) → In e (reportedEntries (answerOf certificate issuer profile room) (roomOf certificate issuer profile room))
+      → levelText (e .level) ≡ word (levelWord (levelOf (e .rule)))
+  level-said e m =
+      let k = findings-levelled p certificate issuer e (subst (λ (es : List Entry). In e es) found-entries m) in
+      ap levelText k ∙ level-word (levelOf (e .rule))

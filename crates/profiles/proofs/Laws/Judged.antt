@@ -1,7 +1,7 @@
 -- The code's bits say what the table of rules and profiles says.
 --     bits-right     a profile's bit, whatever the rule
 -- Assumes nothing.
-use mathlib.Core.Path.{_≡_, refl, sym, _∙_}
+use mathlib.Core.Path.{_≡_, refl, sym, ap, _∙_}
 use mathlib.Core.List.{List, [], _∷_}
 use mathlib.Core.Bool.{Bool, true, false, _&&_}
 use Prim.Native.Nat.{ℕ, _/_, _%_, _^_, _≤_}
@@ -16,6 +16,8 @@ use Rattle.profiles.specs.Judged.{ruleTable, ruleLimit, rowOf, judgedIn,
 use Rattle.profiles.specs.Workings.Bits.{ofHundred, judgedBits, bitIn}
 use Rattle.profiles.specs.declared.fields.Profile.{Profile}
 use Rattle.profiles.specs.declared.fields.Profile.the-variants.{Domain, Organization, Responder, Subordinate}
+use Rattle.profiles.specs.declared.levels.Level.{Level}
+use Rattle.profiles.specs.declared.levels.Level.the-variants.{Must}
 
 -- as the code asks
 heldBy : Profile → ℕ → Bool
@@ -35,11 +37,12 @@ all-agree Subordinate = refl
 
 -- ---- from 500 on there is no rule, and no bit
 
-allRules : (ℕ × List ℕ → Bool) → List (ℕ × List ℕ) → Bool
+allRules : (ℕ × Level × List ℕ → Bool) → List (ℕ × Level × List ℕ) → Bool
 allRules test [] = true
 allRules test (row ∷ rows) = test row && allRules test rows
 
-row-past : (rows : List (ℕ × List ℕ)) (limit rule : ℕ) → allRules (λ row. ltb (row .0) limit) rows ≡ true → limit ≤ rule → rowOf rows rule ≡ []
+row-past : (rows : List (ℕ × Level × List ℕ)) (limit rule : ℕ) → allRules (λ row. ltb (row .0) limit) rows ≡ true → limit ≤ rule
+    → rowOf rows rule ≡ (Must, [])
 unfolding allRules rowOf
 row-past [] limit rule e l = refl
 row-past (row ∷ rows) limit rule e l =
@@ -53,7 +56,7 @@ all-said = refl
 
 no-rule : (p : Profile) (rule : ℕ) → 500 ≤ rule → judges p rule ≡ false
 unfolding judgedIn judgedBy isOneOf
-no-rule p rule l = rw (row-past ruleTable ruleLimit rule all-said (omega (arith, l)))
+no-rule p rule l = ap (λ (row : Level × List ℕ). judgedBy p (row .1)) (row-past ruleTable ruleLimit rule all-said (omega (arith, l)))
 
 no-hundred : (hundred a b c d : ℕ) → 5 ≤ hundred → ofHundred hundred a b c d ≡ 0
 no-hundred hundred a b c d l =

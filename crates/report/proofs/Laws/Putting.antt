@@ -1,14 +1,14 @@
 -- Appending entries.
 --     tick-below, tick-cap           a count goes up by one, unless it has reached the cap
 --     put-in, put-out                one entry, written or left out
---     put-picked, put-not            an entry by a test
---     put-noted                      an entry at an element
+--     entry-made                     the entry of a rule at an element
+--     put-noted, put-not             it is put, or not, by a test
 --     nothing                        no entries
 --     _⨾_                            entries, and then others
 --     Rest                           loops: what is still to be put, against what was to be put at the start
 --     rest-start, rest-step, rest-last, rest-end
 -- Assumes nothing.
-use mathlib.Core.Path.{_≡_, refl, sym, subst, _∙_}
+use mathlib.Core.Path.{_≡_, refl, sym, subst, ap₂, _∙_}
 use mathlib.Core.List.{List, [], _∷_, _++_}
 use mathlib.Core.Bool.{Bool, true, false}
 use Prim.Native.Nat.{ℕ, _+_, _*_, _/_, _≤_, _<_, _^_}
@@ -17,13 +17,15 @@ use lib.ListN.{length}
 use lib.Seq.{sets}
 use borrow.Author.Tests.{lt-ltb, le-ltb, le-leb, lt-leb}
 use Rattle.report.specs.declared.sink.Entry.{Entry}
-use Rattle.report.specs.Entries.{width, entryOctets, entryIf, noted}
+use Rattle.report.specs.Entries.{width, entryOctets, entryIf, entryAt, noted}
 use Rattle.report.specs.Putting.{cap, tick, putOne, counted, putAll, Put}
 use Rattle.octets.proofs.Laws.Writing.{sets-append}
 use Rattle.octets.specs.Numbers.{pairOf}
 use Rattle.octets.specs.Places.{placeFrom}
 use Rattle.octets.specs.declared.places.Place.{Place}
 use Rattle.der.specs.declared.header.Head.{Head}
+use Rattle.profiles.specs.Judged.{levelOf}
+use Rattle.profiles.specs.Levels.{levelNumber}
 
 -- ---- one entry
 
@@ -37,17 +39,22 @@ module _ (n : ℕ) where
   tick-cap h = rw (le-ltb n cap h)
 
 module _ (e : Entry) (n : ℕ) (room : List ℕ) where
-  -- a, b and last are the room after each of the three pairs
-  pub put-in : (a b last : List ℕ) → n < length room / width → length room < 2 ^ 63 → a ≡ sets room (width * n) (pairOf (e .rule))
-      → b ≡ sets a (width * n + 2) (pairOf (e .place .start)) → last ≡ sets b (width * n + 4) (pairOf (e .place .len))
-      → Put (e ∷ []) n room (n + 1) last
+  -- a, b, d and last are the room after each of the four pairs
+  pub put-in : (a b d last : List ℕ) → n < length room / width → length room < 2 ^ 63 → a ≡ sets room (width * n) (pairOf (e .rule))
+      → b ≡ sets a (width * n + 2) (pairOf (e .place .start)) → d ≡ sets b (width * n + 4) (pairOf (e .place .len))
+      → last ≡ sets d (width * n + 6) (pairOf (e .level)) → Put (e ∷ []) n room (n + 1) last
   unfolding counted putAll putOne
-  put-in a b last h k p q r =
+  put-in a b d last h k p q r t =
       let l : width * n + width ≤ length room = omega arith in
       let f : width * n + 2 + 2 ≡ width * n + 4 = omega arith in
+      let g : width * n + 4 + 2 ≡ width * n + 6 = omega arith in
+      let level = pairOf (e .level) in
+      let len = pairOf (e .place .len) in
+      let start = pairOf (e .place .start) in
       let all : sets room (width * n) (entryOctets e) ≡ last
-      = sets-append (pairOf (e .rule)) (pairOf (e .place .start) ++ pairOf (e .place .len)) room (width * n)
-      ∙ (rw (← p) (sets-append (pairOf (e .place .start)) (pairOf (e .place .len)) a (width * n + 2) ∙ rw (← q, f) (sym r))) in
+      = sets-append (pairOf (e .rule)) (start ++ len ++ level) room (width * n)
+      ∙ (rw (← p) (sets-append start (len ++ level) a (width * n + 2)
+      ∙ rw (← q, f) (sets-append len level b (width * n + 4) ∙ rw (← r, g) (sym t)))) in
       record { count = tick-below n (omega arith); bytes = rw (le-leb (width * n + width) (length room) l) (sym all) }
 
   pub put-out : (r : ℕ) → length room / width ≤ n → r ≡ tick n → Put (e ∷ []) n room r room
@@ -62,20 +69,20 @@ pub nothing : (n : ℕ) (room : List ℕ) → Put [] n room n room
 unfolding counted putAll
 nothing n room = record { count = refl; bytes = refl }
 
-module _ {n r : ℕ} {room last : List ℕ} (e : Entry) (bad : Bool) where
-  pub put-picked : bad ≡ true → Put (e ∷ []) n room r last → Put (entryIf bad e) n room r last
+-- the place is the element's, the level the rule's
+pub entry-made : (rule : ℕ) (h : Head) {place : Place} {level : ℕ} → place ≡ placeFrom (h .at) (h .end) → level ≡ levelNumber (levelOf rule)
+    → record { rule = rule; place = place; level = level } ≡ entryAt rule h
+entry-made rule h e f = ap₂ (λ (q : Place) (l : ℕ). record { rule = rule; place = q; level = l }) e f
+
+module _ (rule : ℕ) (bad : Bool) (h : Head) where
+  pub put-noted : {n r : ℕ} {room last : List ℕ} {e : Entry} → bad ≡ true → e ≡ entryAt rule h → Put (e ∷ []) n room r last
+      → Put (noted rule bad h) n room r last
   unfolding entryIf
-  put-picked t p = rw t p
+  put-noted {n} {r} {room} {last} t q p = rw t (subst (λ (x : Entry). Put (x ∷ []) n room r last) q p)
 
-pub put-not : (e : Entry) (n : ℕ) (room : List ℕ) (bad : Bool) → bad ≡ false → Put (entryIf bad e) n room n room
-unfolding entryIf
-put-not e n room bad t = rw t (nothing n room)
-
--- the place is the element's
-pub put-noted : {n r : ℕ} {room last : List ℕ} (rule : ℕ) (bad : Bool) (h : Head) (place : Place) → place ≡ placeFrom (h .at) (h .end)
-    → Put (entryIf bad (record { rule = rule; place = place })) n room r last → Put (noted rule bad h) n room r last
-put-noted {n} {r} {room} {last} rule bad h place e p =
-    subst (λ (q : Place). Put (entryIf bad (record { rule = rule; place = q })) n room r last) e p
+  pub put-not : (n : ℕ) (room : List ℕ) → bad ≡ false → Put (noted rule bad h) n room n room
+  unfolding entryIf
+  put-not n room t = rw t (nothing n room)
 
 counted-behind : (es fs : List Entry) (n : ℕ) → counted (es ++ fs) n ≡ counted fs (counted es n)
 unfolding counted

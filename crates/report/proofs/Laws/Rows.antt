@@ -9,6 +9,7 @@
 --     rows-ordered               the entries rise by rule, then start
 --     rows-in                    an entry is in the report exactly if its rule is judged and is broken there
 --     rows-at, rows-inside       where entries are
+--     rows-levelled              and that each has its rule's level
 --     none-broken                the report is empty exactly if no rule that is judged is broken
 -- Assumes nothing.
 use mathlib.Core.Path.{_≡_, refl, sym, ap, subst, _∙_}
@@ -26,7 +27,7 @@ use Rattle.report.specs.declared.sink.Entry.{Entry}
 use Rattle.report.specs.Entries.{entryAt, entryIf, noted}
 use Rattle.report.specs.Forms.{filter, onesOf}
 use Rattle.report.specs.Workings.Forms.{each, one}
-use Rattle.report.specs.Order.{In, Before, RisingEntries, Ordered, EntriesInside}
+use Rattle.report.specs.Order.{In, Before, RisingEntries, Ordered, EntriesInside, EntriesLevelled}
 use Rattle.report.proofs.Terms.Items.{Apart}
 use Rattle.report.specs.Order.RisingEntries.{no-entries, more-entries}
 use Rattle.report.proofs.Terms.Items.Apart.{no-items, more-items}
@@ -37,7 +38,8 @@ use Rattle.report.proofs.Terms.Rows.Up.{no-heads, more-heads}
 use Rattle.report.proofs.Terms.Rows.RowsOk.{no-rows, more-rows}
 use Rattle.octets.proofs.Laws.Tests.{and-l, and-r}
 use Rattle.der.specs.declared.header.Head.{Head}
-use Rattle.profiles.specs.Judged.{judgedIn, judgedBy, judges}
+use Rattle.profiles.specs.Judged.{levelOf, judgedIn, judgedBy, judges}
+use Rattle.profiles.specs.Levels.{levelNumber}
 use Rattle.profiles.specs.declared.fields.Profile.{Profile}
 use Rattle.report.proofs.Laws.Members.{only-in, map-in, from-map, filter-in}
 use Rattle.report.proofs.Laws.Order.{none-ordered, join-ordered, wider-ordered, of-rule}
@@ -279,6 +281,11 @@ rows-inside p limit f k e m =
     let x = rows-at p k e m in
     let b = f (x .0) (x .1) in
     rw (x .2) (omega arith)
+
+pub rows-levelled : (p : Profile) (rs : List Row) → EntriesLevelled (findingsOf p rs)
+rows-levelled p rs e m =
+    let x = said p rs e m in
+    subst (λ (d : Entry). d .level ≡ levelNumber (levelOf (d .rule))) (sym (x .2 .1 .entry)) refl
 
 -- ---- the empty report
 

@@ -3,6 +3,7 @@
 --     findings-ordered      entries rise by rule, then start, so no two are equal
 --     findings-elements     each is at an element of the certificate
 --     findings-inside       so each lies in it
+--     findings-levelled     each has its rule's level
 --     finding-in            an entry is there exactly if its rule is judged and is broken there
 --     none-broken           there is none exactly if no rule that is judged is broken
 --     found-by-facts        what the facts that are read give
@@ -29,11 +30,11 @@ use Rattle.facts.specs.declared.Facts.{Facts}
 use Rattle.facts.proofs.Laws.Case.{caseBy, case-is}
 use Rattle.facts.proofs.Laws.Inside.{element-inside}
 use Rattle.report.specs.Entries.{entryAt}
-use Rattle.report.specs.Order.{In, Ordered, EntriesInside}
+use Rattle.report.specs.Order.{In, Ordered, EntriesInside, EntriesLevelled}
 use Rattle.report.specs.Rows.{Row, findingsOf, ascend}
 use Rattle.report.proofs.Terms.Rows.{RowsOk}
 use Rattle.report.specs.declared.sink.Entry.{Entry}
-use Rattle.report.proofs.Laws.Rows.{ok-join, rows-ordered, rows-at, rows-inside, InRows, rows-in, none-broken as none-broken-of}
+use Rattle.report.proofs.Laws.Rows.{ok-join, rows-ordered, rows-at, rows-inside, rows-levelled, InRows, rows-in, none-broken as none-broken-of}
 use Rattle.rules_fields.specs.Version.{versionRows}
 use Rattle.rules_fields.specs.Algorithms.{signatureRows}
 use Rattle.rules_fields.specs.Period.{validityRows}
@@ -108,6 +109,10 @@ module _ (p : Profile) (s issuer : List ℕ) where
   pub findings-inside : certificateVerdict s ≡ Fits → EntriesInside (findings p s issuer) (length s)
   unfolding findings
   findings-inside e = known-inside p s (knownOf issuer) e
+
+  pub findings-levelled : EntriesLevelled (findings p s issuer)
+  unfolding findings findingsFor
+  findings-levelled = rows-levelled p (rulesFor p s (knownOf issuer))
 
   -- how repeats are asked makes no difference
   asked-same : (k : Known)
