@@ -104,6 +104,15 @@ pub struct Deck {
 }
 
 impl Deck {
+    /// A deck of these records, numbered from 1.
+    pub fn of(cases: &[Case]) -> Deck {
+        let mut deck = Deck::default();
+        for (number, case) in (1..).zip(cases) {
+            deck.push_record(&Record { number, case: case.clone() });
+        }
+        deck
+    }
+
     pub fn push_record(&mut self, record: &Record) {
         self.push_whole(record, &record.blocks());
     }

@@ -27,15 +27,6 @@ fn longest_lines() -> usize {
     findings * finding.len() + last.len()
 }
 
-/// A deck of these records, numbered from 1.
-fn deck_of(cases: &[Case]) -> Deck {
-    let mut deck = Deck::default();
-    for (case, number) in cases.iter().zip(1..) {
-        deck.push_record(&Record { number, case: case.clone() });
-    }
-    deck
-}
-
 /// How many lines a listing has with this at its front.
 fn lines_with(listing: &str, front: &str) -> usize {
     listing.lines().filter(|line| line.starts_with(front)).count()
@@ -80,7 +71,7 @@ fn one_to_seven_records_of_the_most_names() {
         hold_fits(&case);
         for records in 1..=7 {
             let what = format!("{records} records of profile {profile}, {names:?}");
-            let listing = listers.hold(&what, &deck_of(&vec![case.clone(); records]));
+            let listing = listers.hold(&what, &Deck::of(&vec![case.clone(); records]));
             assert_eq!(listing.lines().count(), records * (1 + findings) + 1, "{what}");
             assert_eq!(lines_with(&listing, "record "), records, "{what}");
             for rule in rules {
@@ -98,7 +89,7 @@ fn dense_decks_at_the_most_octets() {
     let mut listers = Listers::of("dense decks around 65,536 octets");
     for profile in ALL {
         for records in [1, 4, 7] {
-            let deck = deck_of(&vec![densest(*profile); records]);
+            let deck = Deck::of(&vec![densest(*profile); records]);
             for octets in [MOST_OCTETS - BLOCK, MOST_OCTETS - 1, MOST_OCTETS] {
                 let what = format!("{records} records of profile {profile} in {octets} octets");
                 let listing = listers.hold(&what, &filled_up(deck.clone(), octets));

@@ -6,7 +6,7 @@ use std::collections::BTreeSet;
 use std::ops::RangeInclusive;
 
 use comparison::correct::{plain, set_extension, Case};
-use comparison::deck::{in_room, Deck, Record};
+use comparison::deck::{in_room, Deck};
 use comparison::dense;
 use comparison::element::Element;
 use comparison::entries::ENTRY;
@@ -53,14 +53,6 @@ fn with_findings(profile: u8, count: usize) -> Case {
     case
 }
 
-fn deck_of(cases: &[Case]) -> Deck {
-    let mut deck = Deck::default();
-    for (number, case) in (1..).zip(cases) {
-        deck.push_record(&Record { number, case: case.clone() });
-    }
-    deck
-}
-
 #[test]
 fn a_finding_needs_8_octets() {
     // how many findings, the rooms that are too short from where 6 octets a finding were enough, and the first that is not
@@ -100,7 +92,7 @@ fn records_in_rooms_of_every_length_around_the_limit() {
     let mut readers = Readers::of("records in rooms of every length around the limit");
     for profile in ALL {
         for findings in counts() {
-            let deck = deck_of(&[with_findings(*profile, findings)]);
+            let deck = Deck::of(&[with_findings(*profile, findings)]);
             for room in rooms_around(findings) {
                 readers.hold(&format!("{findings} findings in {room} octets"), &deck, room);
             }
@@ -118,7 +110,7 @@ fn records_that_share_a_room() {
         let mut cases: Vec<Case> = (0..=MOST).map(|findings| with_findings(*profile, findings)).collect();
         // Falling counts leave entries of earlier records behind the last one.
         for _ in 0..2 {
-            let deck = deck_of(&cases);
+            let deck = Deck::of(&cases);
             for room in 0..=ENTRY * MOST + TO_EITHER_SIDE {
                 readers.hold(&format!("0 to {MOST} findings in {room} octets"), &deck, room);
             }
@@ -143,7 +135,7 @@ fn the_densest_records_in_rooms_around_the_limit() {
         let case = dense::densest(*profile);
         let findings = rules_of(&case.expected).len();
         assert!(findings > 4_000 && octets_needed(&case.expected) < AMPLE_ROOM, "{findings} findings");
-        let deck = deck_of(std::slice::from_ref(&case));
+        let deck = Deck::of(std::slice::from_ref(&case));
         for room in rooms_for_many(findings) {
             let what = format!("{findings} findings in {room} octets");
             linters.hold_in_room(&what, &case, room);

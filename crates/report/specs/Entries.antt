@@ -34,15 +34,11 @@ unfoldable pub decode : ℕ → List ℕ → List Entry
 decode zero s = []
 decode (suc n) s = entryOf s 0 ∷ decode n (drop width s)
 
--- an entry, or none, by a test
-unfoldable pub entryIf : Bool → Entry → List Entry
-entryIf true e = e ∷ []
-entryIf false e = []
-
 -- the entry of a rule at an element: its level is the rule's
 abbrev pub entryAt : ℕ → Head → Entry
 entryAt rule h = record { rule = rule; place = placeFrom (h .at) (h .end); level = levelNumber (levelOf rule) }
 
--- a rule that judges one element
-abbrev pub noted : ℕ → Bool → Head → List Entry
-noted rule bad h = entryIf bad (entryAt rule h)
+-- a rule that judges one element: its entry where that is bad, or none
+unfoldable pub noted : ℕ → Bool → Head → List Entry
+noted rule true h = entryAt rule h ∷ []
+noted rule false h = []

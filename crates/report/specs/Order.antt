@@ -30,6 +30,9 @@ pub record Ordered (from to : ℕ) (es : List Entry) : Type 0 where
 abbrev pub EntriesInside : List Entry → ℕ → Type 0
 EntriesInside es limit = (e : Entry) → In e es → e .place .start + e .place .len ≤ limit
 
--- each entry says "must" or "should" as its rule does: "1 for must, 2 for should" (document 02, CR 3)
+-- an entry says "must" or "should" as its rule does: "1 for must, 2 for should" (document 02, CR 3)
+abbrev pub Levelled : Entry → Type 0
+Levelled e = e .level ≡ levelNumber (levelOf (e .rule))
+
 abbrev pub EntriesLevelled : List Entry → Type 0
-EntriesLevelled es = (e : Entry) → In e es → e .level ≡ levelNumber (levelOf (e .rule))
+EntriesLevelled es = (e : Entry) → In e es → Levelled e

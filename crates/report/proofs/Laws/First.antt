@@ -12,7 +12,7 @@ use native.Mathlib.Omega.{arith}
 use lib.Dec.{leb}
 use borrow.Author.Tests.{le-leb, lt-leb}
 use Rattle.report.specs.declared.sink.Entry.{Entry}
-use Rattle.report.specs.Entries.{entryAt, entryIf, noted}
+use Rattle.report.specs.Entries.{entryAt, noted}
 use Rattle.report.specs.Forms.{filter, onesOf}
 use Rattle.report.specs.Workings.Forms.{each, one, isBehind}
 use Rattle.report.specs.Order.{In}
@@ -44,7 +44,7 @@ module _ (rule : ℕ) (isX : Head → Bool) (name : Head) where
   -- h is the first X
   found : (h : Head) (hs : List Head) → h .at < h .end → ((g : Head) → In g hs → h .end ≤ g .at) → isX h ≡ true
       → one rule isX name (h ∷ hs) ≡ by-first h (h ∷ hs)
-  unfolding filter each one onesOf entryIf
+  unfolding filter each one onesOf noted
   found h hs l f t =
       rw (t, lt-leb (h .end) (h .at) l)
       (ap (map (entryAt rule))
@@ -58,7 +58,7 @@ module _ (rule : ℕ) (isX : Head → Bool) (name : Head) where
 
   pub one-by-first : {hs : List Head} (end : ℕ) → Apart hs
       → one rule isX name hs ≡ noted rule (isEmpty (firstOf isX end hs)) name ++ each rule (isBehind isX (firstOf isX end hs .end)) hs
-  unfolding firstOf filter each one onesOf entryIf
+  unfolding firstOf filter each one onesOf noted
   one-by-first end no-items = rw (le-leb end end (le-refl end))
   one-by-first end (more-items {h = h} {hs = hs} l f r) = go (isX h) refl (one-by-first end r)
     where

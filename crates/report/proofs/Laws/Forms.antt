@@ -5,7 +5,7 @@ use mathlib.Core.Path.{_≡_, refl}
 use mathlib.Core.List.{List, [], _∷_, _++_, append-assoc}
 use mathlib.Core.Bool.{Bool, true, false}
 use Prim.Native.Nat.{ℕ}
-use Rattle.report.specs.Entries.{entryIf, noted}
+use Rattle.report.specs.Entries.{noted}
 use Rattle.report.specs.Forms.{filter}
 use Rattle.report.specs.Workings.Forms.{each}
 use Rattle.der.specs.declared.header.Head.{Head}
@@ -16,7 +16,7 @@ module _ (rule : ℕ) (bad : Head → Bool) where
   each-none = refl
 
   pub each-next : (h : Head) (hs : List Head) → each rule bad (h ∷ hs) ≡ noted rule (bad h) h ++ each rule bad hs
-  unfolding each filter entryIf
+  unfolding each filter noted
   each-next h hs = go (bad h) refl
     where
       go : (b : Bool) → bad h ≡ b → each rule bad (h ∷ hs) ≡ noted rule b h ++ each rule bad hs

@@ -17,7 +17,7 @@ use lib.ListN.{length}
 use lib.Seq.{sets}
 use borrow.Author.Tests.{lt-ltb, le-ltb, le-leb, lt-leb}
 use Rattle.report.specs.declared.sink.Entry.{Entry}
-use Rattle.report.specs.Entries.{width, entryOctets, entryIf, entryAt, noted}
+use Rattle.report.specs.Entries.{width, entryOctets, entryAt, noted}
 use Rattle.report.specs.Putting.{cap, tick, putOne, counted, putAll, Put}
 use Rattle.octets.proofs.Laws.Writing.{sets-append}
 use Rattle.octets.specs.Numbers.{pairOf}
@@ -77,11 +77,11 @@ entry-made rule h e f = ap₂ (λ (q : Place) (l : ℕ). record { rule = rule; p
 module _ (rule : ℕ) (bad : Bool) (h : Head) where
   pub put-noted : {n r : ℕ} {room last : List ℕ} {e : Entry} → bad ≡ true → e ≡ entryAt rule h → Put (e ∷ []) n room r last
       → Put (noted rule bad h) n room r last
-  unfolding entryIf
+  unfolding noted
   put-noted {n} {r} {room} {last} t q p = rw t (subst (λ (x : Entry). Put (x ∷ []) n room r last) q p)
 
   pub put-not : (n : ℕ) (room : List ℕ) → bad ≡ false → Put (noted rule bad h) n room n room
-  unfolding entryIf
+  unfolding noted
   put-not n room t = rw t (nothing n room)
 
 counted-behind : (es fs : List Entry) (n : ℕ) → counted (es ++ fs) n ≡ counted fs (counted es n)

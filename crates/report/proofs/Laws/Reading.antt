@@ -18,13 +18,12 @@ use lib.Seq.{take-nil, getD-take, getD-drop}
 use Rattle.report.specs.declared.sink.Entry.{Entry}
 use Rattle.report.specs.Entries.{width, reportOctets, entryOf, decode}
 use Rattle.report.specs.Answers.{enoughRoom, filled}
-use Rattle.report.specs.Order.{In, Ordered, EntriesInside, EntriesLevelled}
+use Rattle.report.specs.Order.{In, Ordered, EntriesInside, Levelled, EntriesLevelled}
 use Rattle.octets.specs.Octets.{octetAt}
 use Rattle.octets.specs.Numbers.{pairAt}
 use Rattle.octets.proofs.Laws.Octets.{past}
 use Rattle.report.proofs.Laws.Passes.{filled-written}
 use Rattle.profiles.specs.Judged.{levelOf}
-use Rattle.profiles.specs.Levels.{levelNumber}
 use Rattle.profiles.proofs.Laws.Levels.{level-small}
 
 -- ---- one entry
@@ -129,7 +128,7 @@ pub read-back : {from to limit : ℕ} {es : List Entry} (rest : List ℕ) → Or
     → EntriesLevelled es → decode (length es) (reportOctets es ++ rest) ≡ es
 read-back {from} {to} {limit} {es} rest o t i l v = read-all es rest (λ e m. go e (o .rules e m) (i e m) (v e m))
   where
-    go : (e : Entry) → (from ≤ e .rule) × (e .rule < to) → e .place .start + e .place .len ≤ limit → e .level ≡ levelNumber (levelOf (e .rule)) → Small e
+    go : (e : Entry) → (from ≤ e .rule) × (e .rule < to) → e .place .start + e .place .len ≤ limit → Levelled e → Small e
     go e r k q = (omega arith, omega arith, omega arith, rw q (level-small (levelOf (e .rule))))
 
 pub report-back : {from to limit : ℕ} {es : List Entry} (room : List ℕ) → Ordered from to es → to ≤ 65536 → EntriesInside es limit → limit < 65536

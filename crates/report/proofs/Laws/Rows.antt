@@ -24,10 +24,10 @@ use native.Mathlib.Omega.{arith}
 use lib.Dec.{leb}
 use borrow.Author.Tests.{leb-true}
 use Rattle.report.specs.declared.sink.Entry.{Entry}
-use Rattle.report.specs.Entries.{entryAt, entryIf, noted}
+use Rattle.report.specs.Entries.{entryAt, noted}
 use Rattle.report.specs.Forms.{filter, onesOf}
 use Rattle.report.specs.Workings.Forms.{each, one}
-use Rattle.report.specs.Order.{In, Before, RisingEntries, Ordered, EntriesInside, EntriesLevelled}
+use Rattle.report.specs.Order.{In, Before, RisingEntries, Ordered, EntriesInside, Levelled, EntriesLevelled}
 use Rattle.report.proofs.Terms.Items.{Apart}
 use Rattle.report.specs.Order.RisingEntries.{no-entries, more-entries}
 use Rattle.report.proofs.Terms.Items.Apart.{no-items, more-items}
@@ -38,8 +38,7 @@ use Rattle.report.proofs.Terms.Rows.Up.{no-heads, more-heads}
 use Rattle.report.proofs.Terms.Rows.RowsOk.{no-rows, more-rows}
 use Rattle.octets.proofs.Laws.Tests.{and-l, and-r}
 use Rattle.der.specs.declared.header.Head.{Head}
-use Rattle.profiles.specs.Judged.{levelOf, judgedIn, judgedBy, judges}
-use Rattle.profiles.specs.Levels.{levelNumber}
+use Rattle.profiles.specs.Judged.{judgedIn, judgedBy, judges}
 use Rattle.profiles.specs.declared.fields.Profile.{Profile}
 use Rattle.report.proofs.Laws.Members.{only-in, map-in, from-map, filter-in}
 use Rattle.report.proofs.Laws.Order.{none-ordered, join-ordered, wider-ordered, of-rule}
@@ -48,10 +47,10 @@ use Rattle.report.proofs.Laws.Putting.{Rest, rest-step, rest-end, _⨾_
 -- ---- putting
 
 pub judged-is : (p : Profile) (rule : ℕ) (bad : Bool) (h : Head) → noted rule (judges p rule && bad) h ≡ entriesOf p (rule ⦂ brokenAt bad h)
-unfolding entriesOf brokenAt entryIf
+unfolding entriesOf brokenAt noted
 judged-is p rule bad h = go (judges p rule) bad
   where
-    go : (j b : Bool) → entryIf (j && b) (entryAt rule h) ≡ onlyIf j (map (entryAt rule) (brokenAt b h))
+    go : (j b : Bool) → noted rule (j && b) h ≡ onlyIf j (map (entryAt rule) (brokenAt b h))
     go true true = refl
     go true false = refl
     go false b = refl
@@ -285,7 +284,7 @@ rows-inside p limit f k e m =
 pub rows-levelled : (p : Profile) (rs : List Row) → EntriesLevelled (findingsOf p rs)
 rows-levelled p rs e m =
     let x = said p rs e m in
-    subst (λ (d : Entry). d .level ≡ levelNumber (levelOf (d .rule))) (sym (x .2 .1 .entry)) refl
+    subst Levelled (sym (x .2 .1 .entry)) refl
 
 -- ---- the empty report
 
