@@ -21,7 +21,7 @@
  *
  *     1  the certificate has no octets, or more than 8,192         side 1, place 0
  *     2  the issuer's certificate has no octets, or more           side 2, place 0
- *     3  the profile is not 1 to 8                                 side 0, place 0
+ *     3  the profile is not 1, 2, 3 or 4                           side 0, place 0
  *     4  not sound DER                                             its side, the first faulty element
  *     5  a SET whose members do not ascend                         its side, the first such SET
  *     6  not a certificate                                         its side, the first element not allowed there
@@ -41,16 +41,11 @@
 extern "C" {
 #endif
 
-/* Profiles: servers with domain and with organization validation, delegated OCSP responders, and subordinate CAs; of persons
- * signature certificates, and those of PIV, PIV-I and Derived PIV authentication. */
+/* Profiles: servers with domain and with organization validation, delegated OCSP responders, and subordinate CAs. */
 #define DLOZAMIFE_DOMAIN 1
 #define DLOZAMIFE_ORGANIZATION 2
 #define DLOZAMIFE_RESPONDER 3
 #define DLOZAMIFE_SUBORDINATE 4
-#define DLOZAMIFE_SIGNATURE 5
-#define DLOZAMIFE_PIV 6
-#define DLOZAMIFE_PIV_I 7
-#define DLOZAMIFE_DERIVED_PIV 8
 
 /* The most octets of a certificate. */
 #define DLOZAMIFE_MOST 8192

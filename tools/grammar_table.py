@@ -21,7 +21,7 @@ def implicit(n, f): return (((0x80 if isinstance(f[0][1], str) else 0xA0) + n, f
 def explicit(n, f): return ((0xA0 + n, (one(f),)),)
 def choice(*fs): return sum(fs, ())
 
-any_ = leaf(0, 'free'); boolean = leaf(1, 'free'); true = leaf(1, 'yes'); integer = leaf(2, 'integer'); natural = leaf(2, 'natural')
+any_ = leaf(0, 'free'); true = leaf(1, 'yes'); integer = leaf(2, 'integer'); natural = leaf(2, 'natural')
 positive = leaf(2, 'positive')
 bits = leaf(3, 'bits'); named = leaf(3, 'named'); octets = leaf(4, 'free'); null = leaf(5, 'nothing')
 oid = leaf(6, 'oid'); ia5 = leaf(0x16, 'free'); free1 = leaf(0x81, 'free'); free2 = leaf(0x82, 'free')
@@ -59,7 +59,7 @@ subtree = seq(one(general_name), opt(implicit(0, positive)), opt(implicit(1, nat
 subtrees = seq_of(subtree)
 name_constraints = seq(opt(implicit(0, subtrees)), opt(implicit(1, subtrees)))
 
-judged = [certificate, aki, basic_constraints, octets, named, eku, policies, general_names, aia, points, null, name_constraints, boolean]
+judged = [certificate, aki, basic_constraints, octets, named, eku, policies, general_names, aia, points, null, name_constraints]
 types = [()] + judged + [
     tbs, algorithm, bits, oid, any_, explicit(0, version), integer, name, validity, spki, free1, free2, explicit(3, extensions),
     version, rdn, attribute, time, extensions, extension, true, octets, general_name, explicit(0, any_), implicit(0, octets),
@@ -110,14 +110,14 @@ open(ROOT + '/src/table.rt', 'w').write('''// RFC 5280's types as tables of rows
 // times, and the row of its type. 0 ends the fields.
 ''' + const('FIELDS', FIELDS) + '''
 // The row of the fields of a list that holds a Certificate alone, and of one that holds alone the value of the
-// extension that rule 340+s judges, for s from 1 to 12.
+// extension that rule 340+s judges, for s from 1 to 11.
 ''' + const('ROOTS', ROOTS))
 
 NAMES = '''algorithmIdentifier attributeTypeAndValue relativeDistinguishedName name time validity subjectPublicKeyInfo extension
 extensions version tbsCertificate certificate otherName generalName generalNames authorityKeyIdentifier basicConstraints
 subjectKeyIdentifier keyUsage extKeyUsage policyQualifierInfo policyInformation certificatePolicies accessDescription
 authorityInfoAccess distributionPointName distributionPoint cRLDistributionPoints ocspNoCheck
-generalSubtree generalSubtrees nameConstraints interimStatus'''.split()
+generalSubtree generalSubtrees nameConstraints'''.split()
 
 
 def antt(name, xs):

@@ -3,7 +3,7 @@
 
     tools/instructions.py                            the table of docs/BENCHMARKS.md, "A record in the listing"
     tools/instructions.py --reference PROGRAM        the same with this x86-64 build of list_deck
-    tools/instructions.py --functions ROW [PROGRAM]  where they go, by function, in a row of the table (1 to 12)
+    tools/instructions.py --functions ROW [PROGRAM]  where they go, by function, in a row of the table (1 to 9)
 
 A deck has one record of samples/night.deck over and over; a record's count is (10 records less 5) / 5, so that the
 start and the end of the process drop out. On x86-64, valgrind's callgrind counts. Elsewhere the kit's emulator logs
@@ -35,9 +35,6 @@ ROWS = [
     ("8: profile 3, four findings", 8, None),
     ("15: profile 4, clean", 15, None),
     ("16: profile 4, six findings", 16, None),
-    ("17: profile 5, clean", 17, None),
-    ("18: profile 6, clean", 18, None),
-    ("24: profile 8, six findings", 24, None),
     ("1 with its second block unsound: four lost blocks", 1, 1),
 ]
 

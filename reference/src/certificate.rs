@@ -104,21 +104,6 @@ impl<'a> Certificate<'a> {
             None => &[],
         }
     }
-
-    /// The first extension with this identifier: "other rules see the first only."
-    pub fn first_extension(&self, identifier: &[u8]) -> Option<&Extension<'a>> {
-        self.extensions()
-            .iter()
-            .find(|extension| extension.identifier == identifier)
-    }
-
-    /// Where an extension is missing: "at the extension list, or TBS".
-    pub fn place_of_the_missing(&self) -> Element<'a> {
-        match &self.extension_list {
-            Some(list) => list.element,
-            None => self.to_be_signed,
-        }
-    }
 }
 
 /// TBSCertificate

@@ -8,11 +8,8 @@ pub enum Level {
     Should = 2,
 }
 
-/// The rules that a certificate should keep, a row each; every other rule it must keep.
-const SHOULD_RULES: &[u16] = &[
-    // "A critical purpose list is a "should" finding"
-    511,
-];
+/// The rules that a certificate should keep, a row each; every other rule it must keep: "all rules so far are 1".
+const SHOULD_RULES: &[u16] = &[];
 
 impl Level {
     /// The level of a rule, which all its entries have.
@@ -42,14 +39,6 @@ impl Level {
 #[cfg(test)]
 mod tests {
     use super::*;
-
-    #[test]
-    fn critical_purposes_alone_are_a_should() {
-        let should: Vec<u16> = (0..=u16::MAX)
-            .filter(|&rule| Level::of_rule(rule) == Level::Should)
-            .collect();
-        assert_eq!(should, [511]);
-    }
 
     #[test]
     fn each_level_has_its_number_and_its_word() {

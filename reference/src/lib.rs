@@ -12,7 +12,7 @@
 //! | `object_identifiers` | the identifiers that the rules name |
 //! | `name`, `certificate` | RFC 5280's Certificate: refusal 6 |
 //! | `values` | RFC 5280's extension values: rules 341 to 351 |
-//! | `profile` | the eight profiles, which rules they have, and the table of extensions |
+//! | `profile` | the four profiles, which rules they have, and the table of extensions |
 //! | `rules` | all other rules |
 //! | `level` | which rules are a must and which a should |
 //! | `report` | entries, their order and their octets |

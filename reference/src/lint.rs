@@ -94,7 +94,10 @@ fn what_counts_of<'a>(issuer: &Certificate<'a>) -> Issuer<'a> {
 /// The contents of the issuer's subject key id; None "if the issuer has none, or a bad one".
 /// Of repeated ones the first counts, good or bad.
 fn key_identifier_of<'a>(issuer: &Certificate<'a>) -> Option<&'a [u8]> {
-    let first = issuer.first_extension(SUBJECT_KEY_IDENTIFIER)?;
+    let first = issuer
+        .extensions()
+        .iter()
+        .find(|extension| extension.identifier == SUBJECT_KEY_IDENTIFIER)?;
     let value = sound_element(first.value.contents(), first.value.contents_start())?;
     (value.identifier() == OCTET_STRING).then(|| value.contents())
 }

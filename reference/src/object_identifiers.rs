@@ -18,12 +18,6 @@ pub const RSA_ENCRYPTION: &[u8] = &[0x2A, 0x86, 0x48, 0x86, 0xF7, 0x0D, 0x01, 0x
 /// 1.2.840.113549.1.1.11
 pub const SHA256_WITH_RSA_ENCRYPTION: &[u8] =
     &[0x2A, 0x86, 0x48, 0x86, 0xF7, 0x0D, 0x01, 0x01, 0x0B];
-/// 1.2.840.10045.4.3.2
-pub const ECDSA_WITH_SHA256: &[u8] = &[0x2A, 0x86, 0x48, 0xCE, 0x3D, 0x04, 0x03, 0x02];
-/// 1.2.840.10045.4.3.3
-pub const ECDSA_WITH_SHA384: &[u8] = &[0x2A, 0x86, 0x48, 0xCE, 0x3D, 0x04, 0x03, 0x03];
-/// 1.2.840.10045.4.3.4
-pub const ECDSA_WITH_SHA512: &[u8] = &[0x2A, 0x86, 0x48, 0xCE, 0x3D, 0x04, 0x03, 0x04];
 /// 1.2.840.10045.2.1
 pub const EC_PUBLIC_KEY: &[u8] = &[0x2A, 0x86, 0x48, 0xCE, 0x3D, 0x02, 0x01];
 /// 1.2.840.10045.3.1.7
@@ -58,8 +52,6 @@ pub const OCSP_NOCHECK: &[u8] = &[0x2B, 0x06, 0x01, 0x05, 0x05, 0x07, 0x30, 0x01
 pub const NAME_CONSTRAINTS: &[u8] = &[0x55, 0x1D, 0x1E];
 /// 2.5.29.16
 pub const PRIVATE_KEY_USAGE_PERIOD: &[u8] = &[0x55, 0x1D, 0x10];
-/// 2.16.840.1.101.3.6.9.1
-pub const INTERIM_INDICATOR: &[u8] = &[0x60, 0x86, 0x48, 0x01, 0x65, 0x03, 0x06, 0x09, 0x01];
 
 // Purposes of a key.
 /// 1.3.6.1.5.5.7.3.1
@@ -72,23 +64,6 @@ pub const OCSP_SIGNING: &[u8] = &[0x2B, 0x06, 0x01, 0x05, 0x05, 0x07, 0x03, 0x09
 // Policies and their qualifiers.
 /// 2.16.840.1.101.3.2.1.3
 pub const FEDERAL_POLICY_ARC: &[u8] = &[0x60, 0x86, 0x48, 0x01, 0x65, 0x03, 0x02, 0x01, 0x03];
-/// 2.16.840.1.101.3.2.1.3.6
-pub const COMMON_POLICY: &[u8] = &[0x60, 0x86, 0x48, 0x01, 0x65, 0x03, 0x02, 0x01, 0x03, 0x06];
-/// 2.16.840.1.101.3.2.1.3.7
-pub const COMMON_HARDWARE: &[u8] = &[0x60, 0x86, 0x48, 0x01, 0x65, 0x03, 0x02, 0x01, 0x03, 0x07];
-/// 2.16.840.1.101.3.2.1.3.13
-pub const COMMON_AUTHENTICATION: &[u8] =
-    &[0x60, 0x86, 0x48, 0x01, 0x65, 0x03, 0x02, 0x01, 0x03, 0x0D];
-/// 2.16.840.1.101.3.2.1.3.16
-pub const COMMON_HIGH: &[u8] = &[0x60, 0x86, 0x48, 0x01, 0x65, 0x03, 0x02, 0x01, 0x03, 0x10];
-/// 2.16.840.1.101.3.2.1.3.18
-pub const PIVI_HARDWARE: &[u8] = &[0x60, 0x86, 0x48, 0x01, 0x65, 0x03, 0x02, 0x01, 0x03, 0x12];
-/// 2.16.840.1.101.3.2.1.3.40
-pub const DERIVED_AUTHENTICATION: &[u8] =
-    &[0x60, 0x86, 0x48, 0x01, 0x65, 0x03, 0x02, 0x01, 0x03, 0x28];
-/// 2.16.840.1.101.3.2.1.3.41
-pub const DERIVED_AUTHENTICATION_HARDWARE: &[u8] =
-    &[0x60, 0x86, 0x48, 0x01, 0x65, 0x03, 0x02, 0x01, 0x03, 0x29];
 /// 2.23.140.1.2.1
 pub const DOMAIN_VALIDATED: &[u8] = &[0x67, 0x81, 0x0C, 0x01, 0x02, 0x01];
 /// 2.23.140.1.2.2
@@ -101,10 +76,6 @@ pub const PRACTICE_STATEMENT_QUALIFIER: &[u8] = &[0x2B, 0x06, 0x01, 0x05, 0x05, 
 pub const OCSP_ACCESS: &[u8] = &[0x2B, 0x06, 0x01, 0x05, 0x05, 0x07, 0x30, 0x01];
 /// 1.3.6.1.5.5.7.48.2
 pub const CA_ISSUERS_ACCESS: &[u8] = &[0x2B, 0x06, 0x01, 0x05, 0x05, 0x07, 0x30, 0x02];
-
-// Kinds of other names.
-/// 2.16.840.1.101.3.6.6
-pub const FASC_N: &[u8] = &[0x60, 0x86, 0x48, 0x01, 0x65, 0x03, 0x06, 0x06];
 
 #[cfg(test)]
 mod tests {
@@ -127,56 +98,43 @@ mod tests {
         contents.push(arc as u8 & 0x7F);
     }
 
-    const NAMED: [(&[u8], &str); 44] = [
-        (COMMON_NAME, "2.5.4.3"),
-        (COUNTRY, "2.5.4.6"),
-        (STATE_OR_PROVINCE, "2.5.4.8"),
-        (ORGANIZATION, "2.5.4.10"),
-        (ORGANIZATIONAL_UNIT, "2.5.4.11"),
-        (RSA_ENCRYPTION, "1.2.840.113549.1.1.1"),
-        (SHA256_WITH_RSA_ENCRYPTION, "1.2.840.113549.1.1.11"),
-        (ECDSA_WITH_SHA256, "1.2.840.10045.4.3.2"),
-        (ECDSA_WITH_SHA384, "1.2.840.10045.4.3.3"),
-        (ECDSA_WITH_SHA512, "1.2.840.10045.4.3.4"),
-        (EC_PUBLIC_KEY, "1.2.840.10045.2.1"),
-        (CURVE_P256, "1.2.840.10045.3.1.7"),
-        (CURVE_P384, "1.3.132.0.34"),
-        (CURVE_P521, "1.3.132.0.35"),
-        (AUTHORITY_KEY_IDENTIFIER, "2.5.29.35"),
-        (BASIC_CONSTRAINTS, "2.5.29.19"),
-        (SUBJECT_KEY_IDENTIFIER, "2.5.29.14"),
-        (KEY_USAGE, "2.5.29.15"),
-        (EXTENDED_KEY_USAGE, "2.5.29.37"),
-        (CERTIFICATE_POLICIES, "2.5.29.32"),
-        (SUBJECT_ALTERNATIVE_NAME, "2.5.29.17"),
-        (AUTHORITY_INFORMATION_ACCESS, "1.3.6.1.5.5.7.1.1"),
-        (CRL_DISTRIBUTION_POINTS, "2.5.29.31"),
-        (OCSP_NOCHECK, "1.3.6.1.5.5.7.48.1.5"),
-        (NAME_CONSTRAINTS, "2.5.29.30"),
-        (PRIVATE_KEY_USAGE_PERIOD, "2.5.29.16"),
-        (INTERIM_INDICATOR, "2.16.840.1.101.3.6.9.1"),
-        (SERVER_AUTHENTICATION, "1.3.6.1.5.5.7.3.1"),
-        (CLIENT_AUTHENTICATION, "1.3.6.1.5.5.7.3.2"),
-        (OCSP_SIGNING, "1.3.6.1.5.5.7.3.9"),
-        (FEDERAL_POLICY_ARC, "2.16.840.1.101.3.2.1.3"),
-        (COMMON_POLICY, "2.16.840.1.101.3.2.1.3.6"),
-        (COMMON_HARDWARE, "2.16.840.1.101.3.2.1.3.7"),
-        (COMMON_AUTHENTICATION, "2.16.840.1.101.3.2.1.3.13"),
-        (COMMON_HIGH, "2.16.840.1.101.3.2.1.3.16"),
-        (PIVI_HARDWARE, "2.16.840.1.101.3.2.1.3.18"),
-        (DERIVED_AUTHENTICATION, "2.16.840.1.101.3.2.1.3.40"),
-        (DERIVED_AUTHENTICATION_HARDWARE, "2.16.840.1.101.3.2.1.3.41"),
-        (DOMAIN_VALIDATED, "2.23.140.1.2.1"),
-        (ORGANIZATION_VALIDATED, "2.23.140.1.2.2"),
-        (PRACTICE_STATEMENT_QUALIFIER, "1.3.6.1.5.5.7.2.1"),
-        (OCSP_ACCESS, "1.3.6.1.5.5.7.48.1"),
-        (CA_ISSUERS_ACCESS, "1.3.6.1.5.5.7.48.2"),
-        (FASC_N, "2.16.840.1.101.3.6.6"),
-    ];
-
     #[test]
     fn contents_are_the_encodings() {
-        for (contents, dotted) in NAMED {
+        let named = [
+            (COMMON_NAME, "2.5.4.3"),
+            (COUNTRY, "2.5.4.6"),
+            (STATE_OR_PROVINCE, "2.5.4.8"),
+            (ORGANIZATION, "2.5.4.10"),
+            (ORGANIZATIONAL_UNIT, "2.5.4.11"),
+            (RSA_ENCRYPTION, "1.2.840.113549.1.1.1"),
+            (SHA256_WITH_RSA_ENCRYPTION, "1.2.840.113549.1.1.11"),
+            (EC_PUBLIC_KEY, "1.2.840.10045.2.1"),
+            (CURVE_P256, "1.2.840.10045.3.1.7"),
+            (CURVE_P384, "1.3.132.0.34"),
+            (CURVE_P521, "1.3.132.0.35"),
+            (AUTHORITY_KEY_IDENTIFIER, "2.5.29.35"),
+            (BASIC_CONSTRAINTS, "2.5.29.19"),
+            (SUBJECT_KEY_IDENTIFIER, "2.5.29.14"),
+            (KEY_USAGE, "2.5.29.15"),
+            (EXTENDED_KEY_USAGE, "2.5.29.37"),
+            (CERTIFICATE_POLICIES, "2.5.29.32"),
+            (SUBJECT_ALTERNATIVE_NAME, "2.5.29.17"),
+            (AUTHORITY_INFORMATION_ACCESS, "1.3.6.1.5.5.7.1.1"),
+            (CRL_DISTRIBUTION_POINTS, "2.5.29.31"),
+            (OCSP_NOCHECK, "1.3.6.1.5.5.7.48.1.5"),
+            (NAME_CONSTRAINTS, "2.5.29.30"),
+            (PRIVATE_KEY_USAGE_PERIOD, "2.5.29.16"),
+            (SERVER_AUTHENTICATION, "1.3.6.1.5.5.7.3.1"),
+            (CLIENT_AUTHENTICATION, "1.3.6.1.5.5.7.3.2"),
+            (OCSP_SIGNING, "1.3.6.1.5.5.7.3.9"),
+            (FEDERAL_POLICY_ARC, "2.16.840.1.101.3.2.1.3"),
+            (DOMAIN_VALIDATED, "2.23.140.1.2.1"),
+            (ORGANIZATION_VALIDATED, "2.23.140.1.2.2"),
+            (PRACTICE_STATEMENT_QUALIFIER, "1.3.6.1.5.5.7.2.1"),
+            (OCSP_ACCESS, "1.3.6.1.5.5.7.48.1"),
+            (CA_ISSUERS_ACCESS, "1.3.6.1.5.5.7.48.2"),
+        ];
+        for (contents, dotted) in named {
             assert_eq!(contents, encoded(dotted), "{dotted}");
         }
     }

@@ -92,18 +92,6 @@ impl Date {
             && self.second <= 59
     }
 
-    /// The first second of a day.
-    pub const fn start_of_day(year: u16, month: u8, day: u8) -> Date {
-        Date {
-            year,
-            month,
-            day,
-            hour: 0,
-            minute: 0,
-            second: 0,
-        }
-    }
-
     /// The same month, day and time so many years on, or 28 February where that year has no 29 February. The year may
     /// pass 9999: such a date is later than every time that can be written.
     pub fn anniversary(self, years: u16) -> Date {
@@ -210,7 +198,14 @@ mod tests {
         for year in 0..=2400 {
             for month in 1..=12 {
                 for day in 1..=days_in_month(year, month) {
-                    let date = Date::start_of_day(year, month, day);
+                    let date = Date {
+                        year,
+                        month,
+                        day,
+                        hour: 0,
+                        minute: 0,
+                        second: 0,
+                    };
                     assert_eq!(date.seconds(), seconds);
                     seconds += SECONDS_A_DAY;
                 }
@@ -226,14 +221,6 @@ mod tests {
         assert_eq!(tenth("20960229000001Z"), generalized("21060228000001Z"));
         // 2036 has a 29 February, and a start on the 28th still ends on the 28th.
         assert_eq!(tenth("20260228000000Z"), generalized("20360228000000Z"));
-    }
-
-    #[test]
-    fn third_anniversaries() {
-        let third = |text: &str| generalized(text).map(|date| date.anniversary(3));
-        assert_eq!(third("20240229120000Z"), generalized("20270228120000Z"));
-        assert_eq!(third("20250228000000Z"), generalized("20280228000000Z"));
-        assert_eq!(third("99961231235959Z"), generalized("99991231235959Z"));
     }
 
     #[test]

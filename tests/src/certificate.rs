@@ -285,7 +285,7 @@ pub fn algorithm(identifier: Vec<u8>, parameters: Option<Element>) -> Element {
     Element::sequence(members)
 }
 
-/// The only signature algorithm that profiles 1 to 4 allow, and one of four that 5 to 8 do.
+/// The only signature algorithm that the profiles allow.
 pub fn signature_algorithm() -> Element {
     algorithm(oid::sha256_with_rsa(), Some(Element::null()))
 }

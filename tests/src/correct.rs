@@ -12,9 +12,7 @@ use crate::entries::entry;
 use crate::general_names::*;
 use crate::keys;
 use crate::object_identifiers as oid;
-use crate::profile::{
-    identifier_of, is_authority, is_card, is_responder, is_server, standing, SLOTS, WITH_INDICATOR,
-};
+use crate::profile::{identifier_of, is_authority, is_responder, is_server, standing, SLOTS};
 use crate::random::Random;
 use crate::variations::vary;
 
@@ -26,7 +24,6 @@ pub const AUTHORITY_NAMES: [&str; 2] = ["US Federal TLS CA ", "US Federal Test T
 /// Key usage bits by their positions (RFC 5280, 4.2.1.3).
 pub mod usage {
     pub const DIGITAL_SIGNATURE: usize = 0;
-    pub const NON_REPUDIATION: usize = 1;
     pub const KEY_ENCIPHERMENT: usize = 2;
     pub const KEY_AGREEMENT: usize = 4;
     pub const KEY_CERTIFICATE_SIGN: usize = 5;
@@ -75,10 +72,6 @@ impl Pair {
 
     pub fn is_authority(&self) -> bool {
         is_authority(self.profile)
-    }
-
-    pub fn is_card(&self) -> bool {
-        is_card(self.profile)
     }
 }
 
@@ -170,14 +163,10 @@ fn federal_name(common_name: &str) -> Name {
     ])
 }
 
-/// A subordinate CA, or one that issues to cards; the issuer of a subordinate CA is the root.
+/// A subordinate CA; the issuer of one is the root.
 fn plain_issuer(profile: u8, random: &mut Random) -> Certificate {
     let root = || federal_name("US Federal Root CA");
-    let own = match profile {
-        _ if is_authority(profile) => root(),
-        _ if is_card(profile) => federal_name("US Federal Card CA 1"),
-        _ => federal_name("US Federal TLS CA 1"),
-    };
+    let own = if is_authority(profile) { root() } else { federal_name("US Federal TLS CA 1") };
     let mut constraints = vec![Element::boolean(true)];
     if !is_authority(profile) {
         constraints.push(Element::integer(&[0]));
@@ -200,15 +189,7 @@ fn plain_certificate(profile: u8, issuer: &Certificate, random: &mut Random) -> 
             certificate.extensions.push(Extension::new(identifier_of(slot), standing.is_critical(), value));
         }
     }
-    if WITH_INDICATOR.contains(&profile) {
-        certificate.extensions.push(interim_indicator());
-    }
     certificate
-}
-
-/// The indicator of a holder whose inquiry is complete.
-pub fn interim_indicator() -> Extension {
-    Extension::new(oid::interim_indicator(), false, Element::boolean(false))
 }
 
 fn bare_certificate(issuer: Name, subject: Name, random: &mut Random) -> Certificate {
@@ -242,9 +223,6 @@ fn plain_subject(profile: u8) -> Name {
     if is_authority(profile) {
         return federal_name("US Federal TLS CA 1");
     }
-    if is_card(profile) {
-        return federal_name("Jo Holder");
-    }
     let mut attributes = vec![Attribute::new(oid::country(), Element::printable("US"))];
     if profile >= 2 {
         attributes.push(Attribute::new(oid::organization(), Element::printable("U.S. Government")));
@@ -265,7 +243,7 @@ pub fn plain_value(slot: u8, profile: u8) -> Element {
         4 => plain_usage(profile),
         5 => Element::sequence(vec![Element::object_identifier(&wanted_purpose(profile))]),
         6 => plain_policies(profile),
-        7 => plain_names(profile),
+        7 => general_names(vec![dns(HOST)]),
         8 => plain_access(profile),
         9 => Element::sequence(vec![point(vec![full_name(vec![uri("http://crl.agency.example/list")])])]),
         10 => Element::null(),
@@ -277,36 +255,12 @@ pub fn plain_value(slot: u8, profile: u8) -> Element {
 /// The usages that an authority must name.
 pub const AUTHORITY_USAGE: [usize; 2] = [usage::KEY_CERTIFICATE_SIGN, usage::CRL_SIGN];
 
-/// The usages that a signature or card certificate must name, and no others.
-pub fn card_usage(profile: u8) -> &'static [usize] {
-    match profile {
-        5 => &[usage::DIGITAL_SIGNATURE, usage::NON_REPUDIATION],
-        _ => &[usage::DIGITAL_SIGNATURE],
-    }
-}
-
 fn plain_usage(profile: u8) -> Element {
-    match profile {
-        _ if is_authority(profile) => named_bits(&AUTHORITY_USAGE),
-        _ if is_card(profile) => named_bits(card_usage(profile)),
-        _ => named_bits(&[usage::DIGITAL_SIGNATURE]),
+    if is_authority(profile) {
+        named_bits(&AUTHORITY_USAGE)
+    } else {
+        named_bits(&[usage::DIGITAL_SIGNATURE])
     }
-}
-
-/// A UUID as RFC 4122 prints one.
-pub const UUID: &str = "urn:uuid:f81d4fae-7dec-11d0-a765-00a0c91e6bf6";
-
-/// The other name with the number of a card.
-pub fn card_number(value: Element) -> Element {
-    other_name(oid::card_number(), value)
-}
-
-fn plain_names(profile: u8) -> Element {
-    general_names(match profile {
-        6 => vec![card_number(Element::octet_string(&[0xD1; 25])), uri(UUID)],
-        7 | 8 => vec![uri(UUID)],
-        _ => vec![dns(HOST)],
-    })
 }
 
 fn plain_constraints(profile: u8) -> Element {
@@ -323,21 +277,10 @@ fn plain_name_constraints() -> Element {
 }
 
 pub fn wanted_purpose(profile: u8) -> Vec<u8> {
-    match profile {
-        _ if is_responder(profile) => oid::ocsp_signing(),
-        _ if is_card(profile) => oid::client_auth(),
-        _ => oid::server_auth(),
-    }
-}
-
-/// The policies that documents 003 and 004 print, of which 5 to 8 need one at least.
-pub fn printed_policies(profile: u8) -> Vec<Vec<u8>> {
-    match profile {
-        5 => vec![oid::common_policy(), oid::common_hardware(), oid::common_high()],
-        6 => vec![oid::common_authentication()],
-        7 => vec![oid::interoperable_hardware()],
-        8 => vec![oid::derived_authentication(), oid::derived_authentication_hardware()],
-        _ => vec![],
+    if is_responder(profile) {
+        oid::ocsp_signing()
+    } else {
+        oid::server_auth()
     }
 }
 
@@ -352,8 +295,7 @@ pub fn forum_policies(profile: u8) -> Vec<Vec<u8>> {
 }
 
 fn plain_policies(profile: u8) -> Element {
-    let federal = printed_policies(profile).into_iter().next().unwrap_or_else(oid::federal_policy);
-    let mut policies = vec![policy(federal, vec![])];
+    let mut policies = vec![policy(oid::federal_policy(), vec![])];
     policies.extend(forum_policies(profile).into_iter().take(1).map(|identifier| policy(identifier, vec![])));
     Element::sequence(policies)
 }

@@ -5,7 +5,7 @@ use crate::certificate::{Certificate, Extension};
 use crate::correct::{shortest, Case, Pair};
 use crate::deck::{record_lines, Record};
 use crate::element::{Element, Mark};
-use crate::general_names::{dns, full_name, general_names, mail, point, reasons, uri};
+use crate::general_names::{dns, full_name, general_names, mail, point, uri};
 use crate::profile::{existing_rules, identifier_of, standing, SLOTS};
 use crate::records::{tiny_of, LONGEST_SIDE};
 
@@ -21,26 +21,23 @@ pub enum Names {
     /// `86 00` in the full name of a CRL point, a URI without a character: in the subordinate CA's profile one finding for
     /// two octets, 424, and nothing has more. No other profile has that rule.
     Addresses,
-    /// `30 03 81 01 00`, a CRL point with an empty list of reasons: in every profile one finding for five octets, 419. In
-    /// those of cards nothing has more.
-    Points,
 }
 
-pub const ALL_NAMES: [Names; 4] = [Names::Underscores, Names::Empty, Names::Addresses, Names::Points];
+pub const ALL_NAMES: [Names; 3] = [Names::Underscores, Names::Empty, Names::Addresses];
 
 impl Names {
     /// The row in the table of the extension that they stand in: the alternative name or the CRL points.
     fn slot(self) -> u8 {
         match self {
             Names::Underscores | Names::Empty => 7,
-            Names::Addresses | Names::Points => 9,
+            Names::Addresses => 9,
         }
     }
 
     /// What a dense certificate of over 255 octets has besides its names.
     fn other_octets(self) -> usize {
         match self {
-            Names::Underscores | Names::Empty | Names::Points => 95,
+            Names::Underscores | Names::Empty => 95,
             // The point, its name and its full name have headers of four octets each.
             Names::Addresses => 95 + 3 * 4,
         }
@@ -50,7 +47,6 @@ impl Names {
         match self {
             Names::Underscores => 3,
             Names::Empty | Names::Addresses => 2,
-            Names::Points => 5,
         }
     }
 
@@ -76,7 +72,6 @@ impl Names {
             Names::Empty if position % 2 == 0 => &[414],
             Names::Empty => &[412],
             Names::Addresses => &[424],
-            Names::Points => &[419],
         };
         rules.iter().copied().filter(|rule| existing.contains(rule))
     }
@@ -87,7 +82,6 @@ impl Names {
             Names::Empty if position % 2 == 0 => dns(""),
             Names::Empty => mail(""),
             Names::Addresses => uri(""),
-            Names::Points => point(vec![reasons(0, &[])]),
         };
         self.rules(position, existing).fold(name, Element::breaking)
     }
@@ -96,23 +90,14 @@ impl Names {
     fn extension(self, count: usize, profile: u8) -> Extension {
         let existing = existing_rules(profile);
         let names = (0..count).map(|position| self.at(position, &existing)).collect();
-        let value = match self {
-            Names::Underscores | Names::Empty => general_names(names),
-            Names::Addresses => Element::sequence(vec![point(vec![full_name(names)])]),
-            Names::Points => Element::sequence(names),
-        };
-        let mut extension = Extension::new(identifier_of(self.slot()), false, value);
-        for rule in self.rules_of_all().iter().filter(|rule| existing.contains(rule)) {
-            extension.breaks_at_value(*rule);
-        }
-        extension
-    }
-
-    /// What all of them together lack: an HTTP URI, or the names of a card.
-    fn rules_of_all(self) -> &'static [u16] {
-        match self {
-            Names::Underscores | Names::Empty => &[507, 508],
-            Names::Addresses | Names::Points => &[418, 506],
+        let identifier = identifier_of(self.slot());
+        if self == Names::Addresses {
+            let points = Element::sequence(vec![point(vec![full_name(names)])]);
+            let mut extension = Extension::new(identifier, false, points);
+            extension.breaks_at_value(418);
+            extension
+        } else {
+            Extension::new(identifier, false, general_names(names))
         }
     }
 }
@@ -134,8 +119,7 @@ pub fn densest_names(profile: u8) -> Names {
     match profile {
         1 | 2 => Names::Underscores,
         3 => Names::Empty,
-        4 => Names::Addresses,
-        _ => Names::Points,
+        _ => Names::Addresses,
     }
 }
 
@@ -150,9 +134,8 @@ fn mark_what_is_missing(certificate: &mut Certificate, profile: u8, present: u8)
     certificate.tbs_marks.push(Mark::Breaks(101));
     certificate.inner_algorithm.marks.push(Mark::Breaks(105));
     certificate.outer_algorithm.marks.push(Mark::Breaks(106));
+    certificate.key_algorithm.marks.push(Mark::Breaks(201));
     let existing = existing_rules(profile);
-    let of_key = [201, 501].into_iter().filter(|rule| existing.contains(rule));
-    certificate.key_algorithm.marks.extend(of_key.map(Mark::Breaks));
     if existing.contains(&104) {
         certificate.serial.marks.push(Mark::Breaks(104));
     }
@@ -163,9 +146,6 @@ fn mark_what_is_missing(certificate: &mut Certificate, profile: u8, present: u8)
     }
     let missing = SLOTS.filter(|slot| *slot != present && standing(*slot, profile).is_mandatory());
     certificate.list_marks.extend(missing.map(|slot| Mark::Breaks(300 + u16::from(slot))));
-    if existing.contains(&509) {
-        certificate.list_marks.push(Mark::Breaks(509));
-    }
 }
 
 /// How many octets the lines of a record have.

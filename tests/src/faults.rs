@@ -1,13 +1,12 @@
 //! Single faults: each makes a correct pair break known rules at known places, and no others.
 
-pub mod cards;
-pub mod extensions;
+mod extensions;
 pub mod fields;
 pub mod key;
 pub mod values;
 
 use crate::correct::{correct, plain, set_extension, Pair, HOST};
-use crate::general_names::{dns, general_names, point, reasons};
+use crate::general_names::{dns, general_names};
 use crate::profile::breaking_in;
 use crate::random::Random;
 
@@ -29,8 +28,6 @@ pub enum Aspect {
     Extension(u8),
     /// Whether an extension of the table is critical.
     Critical(u8),
-    /// The interim indicator of a card.
-    Indicator,
     OtherExtensions,
 }
 
@@ -67,7 +64,6 @@ pub fn catalogue() -> Vec<Fault> {
     key::add(&mut faults);
     extensions::add(&mut faults);
     values::add(&mut faults);
-    cards::add(&mut faults);
     faults.faults
 }
 
@@ -121,19 +117,14 @@ pub fn mix(profile: u8, faults: &[Fault], random: &mut Random) -> Pair {
 }
 
 /// As many host names "_" as fit into a certificate: at a server two entries for three octets, because
-/// they are one label, and an underscore is in it; else one. Cards ask nothing of host names: there it is as many CRL
-/// points with reasons.
+/// they are one label, and an underscore is in it; else one.
 pub fn densest(profile: u8) -> Pair {
     let mut pair = plain(profile);
-    let (slot, item) = if pair.is_card() {
-        (9, point(vec![reasons(0, &[])]).breaking(419))
-    } else {
-        set_extension(&mut pair, 7, general_names(vec![dns(HOST)]));
-        (7, breaking_in(profile, 413, breaking_in(profile, 414, dns("_"))))
-    };
+    set_extension(&mut pair, 7, general_names(vec![dns(HOST)]));
+    let name = breaking_in(profile, 413, breaking_in(profile, 414, dns("_")));
     let bare = pair.encode().certificate.len();
-    for _ in 0..(8192 - bare - 20) / item.octets().len() {
-        pair.extension(slot).value().push(item.clone());
+    for _ in 0..(8192 - bare - 20) / 3 {
+        pair.extension(7).value().push(name.clone());
     }
     pair
 }
@@ -147,7 +138,7 @@ pub fn why_never_alone(profile: u8, rule: u16) -> Option<&'static str> {
         (_, 106) => {
             Some("it differs from a right inner algorithm (107), or the inner one is wrong too (105)")
         }
-        (1..=4, 107) => Some("two right algorithms are the same octets, so one is wrong (105 or 106)"),
+        (_, 107) => Some("two right algorithms are the same octets, so one is wrong (105 or 106)"),
         (3, 407) => Some("a list of purposes is not empty, and without OCSPSigning each is another (408)"),
         _ => None,
     }

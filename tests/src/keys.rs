@@ -121,7 +121,7 @@ pub fn use_good_rsa(certificate: &mut Certificate, random: &mut Random) {
     use_rsa(certificate, &modulus, &exponent);
 }
 
-/// RSA of 2048 bits or more, with whatever no rule of profiles 4 to 8 asks about: any factors, exponent and parameters.
+/// RSA of 2048 bits or more, with whatever no rule of a subordinate CA asks about: any factors, exponent and parameters.
 pub fn use_any_long_rsa(certificate: &mut Certificate, random: &mut Random) {
     let mut modulus = odd_number(*random.choose(&[2048, 2049, 2055, 2056, 3072, 4095, 4097, 6000]), random);
     if random.once_in(2) {
@@ -168,12 +168,6 @@ pub fn use_elliptic_curve(certificate: &mut Certificate, parameters: Option<Elem
 
 pub fn use_good_elliptic_curve(certificate: &mut Certificate, random: &mut Random) {
     let curve = random.choose(&[oid::curve_p256, oid::curve_p384, oid::curve_p521])();
-    use_elliptic_curve(certificate, Some(Element::object_identifier(&curve)), random);
-}
-
-/// The curves of signature and card certificates.
-pub fn use_card_curve(certificate: &mut Certificate, random: &mut Random) {
-    let curve = random.choose(&[oid::curve_p256, oid::curve_p384])();
     use_elliptic_curve(certificate, Some(Element::object_identifier(&curve)), random);
 }
 

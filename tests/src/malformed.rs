@@ -93,10 +93,7 @@ fn add_unsound_types(all: &mut Collection) {
     }
     all.add("NULL with contents", 4, |tree| {
         let null = Element::primitive(tag::NULL, &[0]).refused(4);
-        // Where the parameters are, if there are any.
-        let algorithm = tree.find(node::INNER_ALGORITHM);
-        algorithm.contents.truncate(1);
-        algorithm.push(null);
+        tree.find(node::INNER_ALGORITHM).contents[1] = Part::Element(null);
     });
 }
 
@@ -375,14 +372,7 @@ fn add_extra_elements(all: &mut Collection) {
         node::OUTER_ALGORITHM,
     ] {
         all.add(&format!("{name}: a NULL too many at the end"), 6, |tree| {
-            let element = tree.find(name);
-            // An algorithm without parameters would take the NULL for them.
-            let is_algorithm =
-                [node::INNER_ALGORITHM, node::KEY_ALGORITHM, node::OUTER_ALGORITHM].contains(&name);
-            if is_algorithm && element.contents.len() == 1 {
-                element.push(Element::null());
-            }
-            element.push(Element::null().refused(6));
+            tree.find(name).push(Element::null().refused(6));
         });
     }
 }

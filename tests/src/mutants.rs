@@ -5,7 +5,6 @@ use crate::correct::correct;
 use crate::element::Part;
 use crate::faults::{catalogue, Fault};
 use crate::mutation::{mutate_element, mutate_octets};
-use crate::object_identifiers as oid;
 use crate::outside;
 use crate::profile::{any_slot, identifier_of, ALL};
 use crate::random::Random;
@@ -65,7 +64,7 @@ impl Mutants {
             let extension = &mut pair.certificate.extensions[position];
             match (random.below(8), extension.value.first_mut()) {
                 (0, _) => extension.critical = !extension.critical,
-                (1, _) => extension.identifier = any_judged_identifier(random),
+                (1, _) => extension.identifier = identifier_of(any_slot(random)),
                 (2, Some(Part::Octets(octets))) => mutate_octets(octets, random),
                 (_, Some(Part::Element(value))) => mutate_element(value, random),
                 (_, _) => {
@@ -85,15 +84,6 @@ impl Mutants {
         let issuer = random.choose(&self.outside).clone();
         mutate_octets(&mut certificate, random);
         Mutant { profile: *random.choose(ALL), certificate, issuer }
-    }
-}
-
-/// The identifier of an extension of which some rule speaks: one of the table's, or the interim indicator's.
-fn any_judged_identifier(random: &mut Random) -> Vec<u8> {
-    if random.once_in(12) {
-        oid::interim_indicator()
-    } else {
-        identifier_of(any_slot(random))
     }
 }
 

@@ -31,12 +31,7 @@ macro_rules! arcs {
 arcs! {
     sha256_with_rsa = [1, 2, 840, 113549, 1, 1, 11];
     sha1_with_rsa = [1, 2, 840, 113549, 1, 1, 5];
-    ecdsa_with_sha1 = [1, 2, 840, 10045, 4, 1];
-    ecdsa_with_sha224 = [1, 2, 840, 10045, 4, 3, 1];
     ecdsa_with_sha256 = [1, 2, 840, 10045, 4, 3, 2];
-    ecdsa_with_sha384 = [1, 2, 840, 10045, 4, 3, 3];
-    ecdsa_with_sha512 = [1, 2, 840, 10045, 4, 3, 4];
-    sha384_with_rsa = [1, 2, 840, 113549, 1, 1, 12];
     rsa_encryption = [1, 2, 840, 113549, 1, 1, 1];
     elliptic_curve_key = [1, 2, 840, 10045, 2, 1];
     curve_p256 = [1, 2, 840, 10045, 3, 1, 7];
@@ -69,7 +64,6 @@ arcs! {
     issuer_alternative_name = [2, 5, 29, 18];
     name_constraints = [2, 5, 29, 30];
     transparency_list = [1, 3, 6, 1, 4, 1, 11129, 2, 4, 2];
-    interim_indicator = [2, 16, 840, 1, 101, 3, 6, 9, 1];
     private_extension = [1, 3, 6, 1, 4, 1, 99999, 1];
 
     server_auth = [1, 3, 6, 1, 5, 5, 7, 3, 1];
@@ -83,13 +77,6 @@ arcs! {
     federal_policy = [2, 16, 840, 1, 101, 3, 2, 1, 3, 13];
     federal_policy_long = [2, 16, 840, 1, 101, 3, 2, 1, 3, 40, 1];
     beside_federal_policy = [2, 16, 840, 1, 101, 3, 2, 1, 4, 13];
-    common_policy = [2, 16, 840, 1, 101, 3, 2, 1, 3, 6];
-    common_hardware = [2, 16, 840, 1, 101, 3, 2, 1, 3, 7];
-    common_high = [2, 16, 840, 1, 101, 3, 2, 1, 3, 16];
-    common_authentication = [2, 16, 840, 1, 101, 3, 2, 1, 3, 13];
-    interoperable_hardware = [2, 16, 840, 1, 101, 3, 2, 1, 3, 18];
-    derived_authentication = [2, 16, 840, 1, 101, 3, 2, 1, 3, 40];
-    derived_authentication_hardware = [2, 16, 840, 1, 101, 3, 2, 1, 3, 41];
     domain_validated = [2, 23, 140, 1, 2, 1];
     organization_validated = [2, 23, 140, 1, 2, 2];
     individual_validated = [2, 23, 140, 1, 2, 3];
@@ -100,7 +87,4 @@ arcs! {
     access_by_ocsp = [1, 3, 6, 1, 5, 5, 7, 48, 1];
     access_to_issuers = [1, 3, 6, 1, 5, 5, 7, 48, 2];
     access_to_repository = [1, 3, 6, 1, 5, 5, 7, 48, 5];
-
-    card_number = [2, 16, 840, 1, 101, 3, 6, 6];
-    principal_name = [1, 3, 6, 1, 4, 1, 311, 20, 2, 3];
 }

@@ -8,7 +8,7 @@ use crate::damage::{change_octet, push_spoiled};
 use crate::deck::{listing_of, Deck, Record, CHECK};
 use crate::faults::catalogue;
 use crate::holding::AMPLE_ROOM;
-use crate::profile::{AUTHORITY, CARD, END_ENTITY};
+use crate::profile::{AUTHORITY, END_ENTITY};
 use crate::random::Random;
 use crate::records::refused;
 
@@ -50,13 +50,6 @@ pub fn sample_deck() -> Deck {
         deck.push_record(&next(faulty(*profile, FAULTS_OF_AUTHORITY, &mut random)));
     }
     deck.push_lost(&[0; 512], Loss::Unsound);
-    // Behind these again; only the short block has to stay last.
-    for profile in CARD {
-        deck.push_record(&next(plain(*profile).encode()));
-    }
-    for (profile, names) in FAULTS_OF_CARDS {
-        deck.push_record(&next(faulty(profile, names, &mut random)));
-    }
     deck.push_lost(&[0xFF; 100], Loss::Short);
     deck
 }
@@ -75,30 +68,6 @@ const FAULTS_OF_AUTHORITY: &[&str] = &[
     "CN not the name of a subordinate CA",
     "not both keyCertSign and cRLSign",
     "three URIs of two points not HTTP",
-];
-
-const FAULTS_OF_CARDS: [(u8, &[&str]); 4] = [
-    (5, &["critical purposes"]),
-    (
-        6,
-        &[
-            "no number of the card",
-            "an interim indicator that is no BOOLEAN",
-            "two good algorithms that differ",
-        ],
-    ),
-    (7, &["no UUID", "an EC key on no allowed curve", "no policy of the printed list"]),
-    (
-        8,
-        &[
-            "too long from a 29 February",
-            "not exactly the usages of the profile",
-            "no OCSP entry an HTTP URI",
-            "no HTTP URI in any full name",
-            "no interim indicator",
-            "critical purposes",
-        ],
-    ),
 ];
 
 fn faulty(profile: u8, names: &[&str], random: &mut Random) -> Case {

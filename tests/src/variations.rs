@@ -1,7 +1,6 @@
 //! Variations of a correct certificate that stay correct.
 
 mod authority;
-pub mod cards;
 
 use crate::calendar::{Fields, Moment};
 use crate::certificate::{Attribute, Extension, KeyKind, Name, RelativeName};
@@ -17,12 +16,12 @@ use crate::random::Random;
 pub fn vary(pair: &mut Pair, random: &mut Random) {
     vary_serial(pair, random);
     vary_names(pair, random);
-    let not_before = vary_validity(pair, random);
+    vary_validity(pair, random);
     vary_identifiers(pair, random);
-    match pair.profile {
-        _ if pair.is_authority() => authority::vary(pair, random),
-        _ if pair.is_card() => cards::vary(pair, not_before, random),
-        _ => vary_end_entity(pair, random),
+    if pair.is_authority() {
+        authority::vary(pair, random);
+    } else {
+        vary_end_entity(pair, random);
     }
     vary_the_unread(pair, random);
     random.shuffle(&mut pair.certificate.extensions);
@@ -109,9 +108,8 @@ fn any_text(random: &mut Random) -> Element {
     Element::primitive(*random.choose(&kinds), &text)
 }
 
-/// Answers when the validity begins.
-fn vary_validity(pair: &mut Pair, random: &mut Random) -> Moment {
-    let not_before = if pair.is_card() { cards::any_issue(random) } else { any_moment(random) };
+fn vary_validity(pair: &mut Pair, random: &mut Random) {
+    let not_before = any_moment(random);
     let last = last_permitted_second(pair.profile, not_before).min(Moment::last());
     let not_after = match random.below(4) {
         0 => last,
@@ -120,7 +118,6 @@ fn vary_validity(pair: &mut Pair, random: &mut Random) -> Moment {
     };
     pair.certificate.not_before = not_before.due_form();
     pair.certificate.not_after = not_after.due_form();
-    not_before
 }
 
 /// A moment from 1950 to 9990, most often near today or near the change of form.
@@ -338,7 +335,6 @@ fn vary_other_extensions(pair: &mut Pair, random: &mut Random) {
             oid::ocsp_nocheck(),
             oid::private_key_usage_period(),
             oid::name_constraints(),
-            oid::interim_indicator(),
         ];
         for identifier in others {
             if random.once_in(3) {

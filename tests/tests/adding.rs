@@ -193,7 +193,7 @@ fn a_refused_record_leaves_the_deck_alone() {
     let no_file = format!("{missing}: No such file or directory\n");
     let calls: [(&[&str], &str); 8] = [
         (&[deck, "0", "1", sides[0], sides[1]], "refused 8: the record number is 0\n"),
-        (&[deck, "1", "9", sides[0], sides[1]], "refused 3: the profile is not 1 to 8\n"),
+        (&[deck, "1", "5", sides[0], sides[1]], "refused 3: the profile is not 1, 2, 3 or 4\n"),
         (
             &[deck, "1", "1", empty, sides[1]],
             "refused 1: the certificate has no octets, or more than 8,192\n",

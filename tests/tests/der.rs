@@ -3,7 +3,7 @@
 
 use comparison::amount::{cases, say};
 use comparison::answers::{Family, Frame, Question, Questioning, Tally, ENCODING};
-use comparison::correct::{correct, plain};
+use comparison::correct::correct;
 use comparison::element::{long_length, shortest_length, tag, Element};
 use comparison::hex;
 use comparison::malformed::{malformed, nested, with_every_field};
@@ -173,11 +173,7 @@ fn malformed_certificates() -> Vec<Vec<u8>> {
     let mut random = Random::for_purpose("malformed DER");
     let mut items = Vec::new();
     for profile in ALL {
-        let mut certificate = correct(*profile, &mut random).certificate;
-        // The names of cards are free and may be empty; here something in a name is malformed.
-        let plain = plain(*profile).certificate;
-        (certificate.issuer, certificate.subject) = (plain.issuer, plain.subject);
-        let certificate = with_every_field(certificate);
+        let certificate = with_every_field(correct(*profile, &mut random).certificate);
         items.extend(malformed(&certificate).iter().map(|item| item.tree.octets()));
     }
     items

@@ -12,7 +12,7 @@ use comparison::holding::AMPLE_ROOM;
 use comparison::keys::{use_good_elliptic_curve, use_rsa};
 use comparison::linters::hold_at_once;
 use comparison::object_identifiers as oid;
-use comparison::profile::{ALL, END_ENTITY, SERVER, WEB};
+use comparison::profile::{ALL, END_ENTITY, SERVER};
 use comparison::random::Random;
 use reference::{block_check, lint, listing, soundness, write_record, Answer, Refusal, Soundness};
 
@@ -75,7 +75,7 @@ fn p8_the_arc_alone_is_not_below_itself() {
     let arc = hex::octets("60 86 48 01 65 03 02 01 03");
     assert_eq!(oid::federal_policy_arc(), arc);
     assert_eq!(oid::federal_policy(), [arc.as_slice(), &[0x0D]].concat());
-    for profile in WEB {
+    for profile in ALL {
         let mut pair = plain(*profile);
         let forum = pair.extension(6).value().members().nth(1).cloned();
         let with = |identifier: Vec<u8>| {

@@ -56,7 +56,7 @@ fn both_sides_of_every_record_of_the_sample_come_back() {
             compared += 1;
         }
     }
-    assert_eq!(compared, 46, "twenty-three records, two sides each");
+    assert_eq!(compared, 30, "fifteen records, two sides each");
     say("sides of the sample's records", compared);
 }
 
@@ -84,8 +84,8 @@ fn records_come_back_as_deckpack_wrote_them() {
 #[test]
 fn a_number_of_no_whole_record_is_said() {
     let deck = repository().join("samples/night.deck");
-    // Of record 9 a block is damaged; the sample's last record is the twenty-fourth.
-    for number in [0, 9, 25, u32::MAX] {
+    // Of record 9 a block is damaged; the sample's last record is the sixteenth.
+    for number in [0, 9, 17, u32::MAX] {
         hold_none(&deck, number);
     }
     with_deck("empty", &[], |deck| hold_none(deck, 1));

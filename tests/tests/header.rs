@@ -120,10 +120,6 @@ fn the_header_has_the_numbers_of_the_papers() {
         ("DLOZAMIFE_REPORT_ROOM", AMPLE_ROOM),
         ("DLOZAMIFE_MOST", LONGEST_SIDE),
         ("DLOZAMIFE_BLOCK", BLOCK),
-        ("DLOZAMIFE_SIGNATURE", 5),
-        ("DLOZAMIFE_PIV", 6),
-        ("DLOZAMIFE_PIV_I", 7),
-        ("DLOZAMIFE_DERIVED_PIV", 8),
     ] {
         assert_eq!(constant(&header, name), Some(due), "{name}");
     }

@@ -17,7 +17,7 @@ use comparison::records::{largest, linted, of_length, of_two_blocks, tiny, LONGE
 const USAGE: &str = "usage: deckpack [DECK] NUMBER PROFILE CERTIFICATE ISSUER\n";
 const REFUSED_1: &str = "refused 1: the certificate has no octets, or more than 8,192\n";
 const REFUSED_2: &str = "refused 2: the issuer's certificate has no octets, or more than 8,192\n";
-const REFUSED_3: &str = "refused 3: the profile is not 1 to 8\n";
+const REFUSED_3: &str = "refused 3: the profile is not 1, 2, 3 or 4\n";
 const REFUSED_8: &str = "refused 8: the record number is 0\n";
 
 /// The program, and a folder of its own for the files that it is given.
@@ -115,13 +115,13 @@ fn refusals_are_said_in_words() {
     let Some(mut packer) = Packer::of("refusals packed") else { return };
     let (good, long, longer) = ([0x30, 0], [0; LONGEST_SIDE + 1], [0; 100_000]);
     for bad in [&[][..], &long, &longer] {
-        for (number, profile, other) in [("1", "1", &good[..]), ("0", "9", &[])] {
+        for (number, profile, other) in [("1", "1", &good[..]), ("0", "5", &[])] {
             packer.hold_sides(number, profile, [bad, other], &[], REFUSED_1);
         }
-        packer.hold_sides("0", "9", [&good, bad], &[], REFUSED_2);
+        packer.hold_sides("0", "5", [&good, bad], &[], REFUSED_2);
     }
     // 256 and 257 must not be taken for 0 and 1.
-    for profile in ["0", "9", "254", "255", "256", "257", "258", "261", "264", "4294967295"] {
+    for profile in ["0", "5", "254", "255", "256", "257", "258", "259", "260", "4294967295"] {
         for number in ["0", "1"] {
             packer.hold_sides(number, profile, [&good, &good], &[], REFUSED_3);
         }

@@ -10,11 +10,11 @@ use comparison::deck::{in_room, Deck};
 use comparison::dense;
 use comparison::element::Element;
 use comparison::entries::ENTRY;
-use comparison::general_names::{full_name, point, reasons, uri};
+use comparison::general_names::{full_name, point, uri};
 use comparison::holding::{octets_needed, rules_of, AMPLE_ROOM};
 use comparison::linters::Linters;
 use comparison::object_identifiers as oid;
-use comparison::profile::{is_authority, is_card, ALL};
+use comparison::profile::{is_authority, ALL};
 use comparison::queue::hold_met;
 use comparison::readers::Readers;
 use comparison::records::refused;
@@ -36,17 +36,14 @@ fn rooms_around(findings: usize) -> RangeInclusive<usize> {
     first..=ENTRY * findings + TO_EITHER_SIDE
 }
 
-/// A plain record of which one rule is broken so many times: by another purpose each, or in the profiles that ask nothing of
-/// those by an address that is not HTTP, or by a CRL point with reasons.
+/// A plain record of which one rule is broken so many times: by another purpose each, or in the profile that asks nothing of
+/// those by an address that is not HTTP.
 fn with_findings(profile: u8, count: usize) -> Case {
     let mut pair = plain(profile);
     if is_authority(profile) {
         let mut names = vec![uri("http://a")];
         names.resize(1 + count, uri("").breaking(424));
         set_extension(&mut pair, 9, Element::sequence(vec![point(vec![full_name(names)])]));
-    } else if is_card(profile) {
-        let odd = point(vec![reasons(6, &[0x40])]).breaking(419);
-        (0..count).for_each(|_| pair.extension(9).value().push(odd.clone()));
     } else {
         let other = Element::object_identifier(&oid::code_signing()).breaking(408);
         (0..count).for_each(|_| pair.extension(5).value().push(other.clone()));
@@ -137,8 +134,7 @@ fn the_densest_records_in_rooms_around_the_limit() {
     for profile in ALL {
         let case = dense::densest(*profile);
         let findings = rules_of(&case.expected).len();
-        let least = if is_card(*profile) { 1_600 } else { 4_000 };
-        assert!(findings > least && octets_needed(&case.expected) < AMPLE_ROOM, "{findings} findings");
+        assert!(findings > 4_000 && octets_needed(&case.expected) < AMPLE_ROOM, "{findings} findings");
         let deck = Deck::of(std::slice::from_ref(&case));
         for room in rooms_for_many(findings) {
             let what = format!("{findings} findings in {room} octets");

@@ -4,17 +4,15 @@ use std::collections::BTreeMap;
 
 use comparison::amount::cases;
 use comparison::bad_values::{bad_values, edge_values, nested_other_name};
-use comparison::correct::{card_usage, correct, plain, plain_value, set_extension};
+use comparison::correct::{correct, plain, plain_value, set_extension};
 use comparison::element::Element;
 use comparison::faults::key::every_bad_rsa_bits;
 use comparison::faults::values::malformed_hosts;
 use comparison::faults::{catalogue, mix, why_never_alone};
-use comparison::general_names::named_bits;
+use comparison::general_names::{dns, named_bits};
 use comparison::holding::rules_of;
 use comparison::linters::Linters;
-use comparison::profile::{
-    breaking_in, existing_rules, has_rule, is_server, standing, ALL, SLOTS, WITH_RSA_ONLY,
-};
+use comparison::profile::{breaking_in, existing_rules, has_rule, is_server, standing, ALL, SLOTS};
 use comparison::random::Random;
 
 #[test]
@@ -119,11 +117,7 @@ fn print_and_hold_the_table(reached: &BTreeMap<(u16, u8), Reached>) {
     println!("{pairs} pairs of rule and profile exist, {} were not reached", missing.len());
     assert!(missing.is_empty(), "not reached, or never alone: {missing:?}");
     // Counted by hand in the papers.
-    assert_eq!(
-        pairs,
-        67 + 71 + 64 + 65 + 40 + 45 + 42 + 44,
-        "the papers have this many pairs of rule and profile"
-    );
+    assert_eq!(pairs, 67 + 71 + 64 + 65, "the papers have this many pairs of rule and profile");
 }
 
 #[test]
@@ -174,9 +168,8 @@ fn a_value_nests_sixteen_deep_and_no_deeper() {
                 *other = other.clone().breaking(412);
             }
             set_extension(&mut pair, 7, names);
-            let of_all: &[u16] = if depth > 16 { &[347] } else { &[507, 508] };
-            for rule in of_all.iter().filter(|rule| has_rule(*profile, **rule)) {
-                pair.extension(7).breaks_at_value(*rule);
+            if depth > 16 {
+                pair.extension(7).breaks_at_value(347);
             }
             linters.hold(&format!("nested {depth} deep"), &pair.encode());
         }
@@ -221,9 +214,7 @@ fn every_malformed_host_breaks_414() {
             if octet == b'_' {
                 name = breaking_in(*profile, 413, name);
             }
-            let mut names = plain_value(7, *profile);
-            names.push(name);
-            set_extension(&mut pair, 7, names);
+            set_extension(&mut pair, 7, Element::sequence(vec![dns("www.agency.example"), name]));
             linters.hold(&format!("octet {octet:02X} in a label"), &pair.encode());
         }
     }
@@ -238,8 +229,8 @@ fn every_usage_is_judged_by_key_and_profile() {
         for with_curve in [false, true] {
             let mut base = plain(*profile);
             if with_curve {
-                comparison::keys::use_card_curve(&mut base.certificate, &mut random);
-                if WITH_RSA_ONLY.contains(profile) {
+                comparison::keys::use_good_elliptic_curve(&mut base.certificate, &mut random);
+                if !is_server(*profile) {
                     base.certificate.key_algorithm = base.certificate.key_algorithm.clone().breaking(201);
                 }
             }
@@ -267,8 +258,7 @@ fn rules_of_usage(profile: u8, with_curve: bool, bits: &[usize]) -> Vec<u16> {
     };
     let has_other = bits.iter().any(|bit| *bit != 0 && Some(*bit) != allowed);
     let lacks_signing = ![5, 6].iter().all(|bit| bits.contains(bit));
-    let is_exact = bits == card_usage(profile);
-    let broken = [(404, !bits.contains(&0)), (405, has_other), (422, lacks_signing), (502, !is_exact)];
+    let broken = [(404, !bits.contains(&0)), (405, has_other), (422, lacks_signing)];
     broken
         .iter()
         .filter(|(rule, is_broken)| *is_broken && has_rule(profile, *rule))

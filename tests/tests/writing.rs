@@ -147,7 +147,7 @@ fn refusals_come_in_their_order_in_every_combination() {
     let side = |length: usize| vec![0xA5; length];
     for certificate in [0, 1, LONGEST_SIDE, LONGEST_SIDE + 1] {
         for issuer in [0, 1, LONGEST_SIDE, LONGEST_SIDE + 1] {
-            for profile in [0, 1, 4, 5, 8, 9, 255] {
+            for profile in [0, 1, 4, 5, 255] {
                 for number in [0, 1] {
                     for room in [0, 511, 512, 33 * BLOCK - 1, 33 * BLOCK] {
                         let (certificate, issuer) = (side(certificate), side(issuer));

@@ -6,7 +6,7 @@ use lib.ListN.{length}
 use Rattle.asn.specs.Grammar.{Form, fits}
 use Rattle.asn.specs.Module.{explicit, attribute_type_and_value, relative_distinguished_name, name, extension, extensions, version}
 use Rattle.asn.specs.Module.{other_name, general_name, general_names, distribution_point_name, distribution_point, crl_distribution_points}
-use Rattle.asn.specs.Module.{general_subtree, general_subtrees, name_constraints, interim_status, judged, value_of}
+use Rattle.asn.specs.Module.{general_subtree, general_subtrees, name_constraints, judged, value_of}
 use Rattle.asn.specs.Answers.{only_element}
 use Rattle.asn.specs.declared.fitting.Verdict.{Verdict}
 use Rattle.asn.specs.declared.fitting.Verdict.TheVariants.{Fits, Wrong}
@@ -59,16 +59,10 @@ table =
     -- a maximum of 0; a negative one
     ∷ is (value_of 11) (0x30 ∷ 10 ∷ 0xA0 ∷ 8 ∷ 0x30 ∷ 6 ∷ 0x82 ∷ 1 ∷ 0x61 ∷ 0x81 ∷ 1 ∷ 0 ∷ []) Fits
     ∷ is (value_of 11) (0x30 ∷ 10 ∷ 0xA0 ∷ 8 ∷ 0x30 ∷ 6 ∷ 0x82 ∷ 1 ∷ 0x61 ∷ 0x81 ∷ 1 ∷ 255 ∷ []) (Wrong 9)
-    -- the interim indicator (510): TRUE, FALSE; an INTEGER, at itself; two of them, at the second; none
-    ∷ is (value_of 12) (1 ∷ 1 ∷ 255 ∷ []) Fits
-    ∷ is (value_of 12) (1 ∷ 1 ∷ 0 ∷ []) Fits
-    ∷ is (value_of 12) (2 ∷ 1 ∷ 0 ∷ []) (Wrong 0)
-    ∷ is (value_of 12) (1 ∷ 1 ∷ 0 ∷ 1 ∷ 1 ∷ 0 ∷ []) (Wrong 3)
-    ∷ is (value_of 12) [] (Wrong 0)
     ∷ []
 
 pub examples : map (λ (e : Example). only_element e.type e.octets 0 (length e.octets)) table ≡ map (λ (e : Example). e.verdict) table
 unfolding table fits attribute_type_and_value relative_distinguished_name name extension extensions version other_name general_name general_names
-    distribution_point_name distribution_point crl_distribution_points general_subtree general_subtrees name_constraints interim_status judged value_of head_of children_of
+    distribution_point_name distribution_point crl_distribution_points general_subtree general_subtrees name_constraints judged value_of head_of children_of
     children_by octets_from octets_le ascend_from arcs_ok
 examples = refl

@@ -13,10 +13,6 @@ use Rattle.der.specs.Tags.{utc_time_tag, generalized_time_tag, sequence_tag, set
 abbrev pub any : Form
 any = alt 0 (leaf Test.free) none
 
--- its octet is 00 or FF if it is sound
-abbrev pub boolean : Form
-boolean = alt boolean_tag (leaf Test.free) none
-
 abbrev pub boolean_true : Form
 boolean_true = alt boolean_tag (leaf Test.yes_octet) none
 
@@ -255,11 +251,7 @@ name_constraints =
     (opt (implicit 1 general_subtrees)  -- excludedSubtrees
     done))
 
--- "The interim indicator is a BOOLEAN" (document 02, CR 4)
-unfoldable pub interim_status : Form
-interim_status = boolean
-
--- The types that the refusals and the rules ask for: Certificate at 0, and at s the value of the extension in slot s, which rule 340 + s judges, and 510
+-- The types that the refusals and the rules ask for: Certificate at 0, and at s the value of the extension that rule 340 + s judges
 
 unfoldable pub judged : List Form
 judged =
@@ -275,7 +267,6 @@ judged =
     ∷ crl_distribution_points
     ∷ ocsp_no_check
     ∷ name_constraints
-    ∷ interim_status
     ∷ []
 
 unfoldable pub value_of : ℕ → Form

@@ -1,5 +1,5 @@
 -- The extensions of a certificate (RFC 5280, 4.1.2.9), and their slots in document 01's table, "Rules on extensions", with "slot 11, name constraints
--- 2.5.29.30" (document 02, CR 1) and, as slot 12, "the interim indicator" (CR 4).
+-- 2.5.29.30" (document 02, CR 1).
 use Rattle.std.specs.Prelude.{List, [], ◌∷◌, Bool, cond, ℕ, ◌+◌, eqb}
 use Rattle.certificate.specs.declared.extensions.Extension.{Extension}
 use Rattle.der.specs.Members.{first_in, second_in, past}
@@ -39,11 +39,7 @@ access_identifier = oid (1 ∷ 3 ∷ 6 ∷ 1 ∷ 5 ∷ 5 ∷ 7 ∷ 1 ∷ 1 ∷ [
 abbrev pub nocheck : List ℕ
 nocheck = oid (1 ∷ 3 ∷ 6 ∷ 1 ∷ 5 ∷ 5 ∷ 7 ∷ 48 ∷ 1 ∷ 5 ∷ [])
 
--- "The piv-interim indicator {2.16.840.1.101.3.6.9.1}" (document 004)
-abbrev pub interim_indicator : List ℕ
-interim_indicator = oid (2 ∷ 16 ∷ 840 ∷ 1 ∷ 101 ∷ 3 ∷ 6 ∷ 9 ∷ 1 ∷ [])
-
--- the identifiers of slots 1 to 12; no profile has the last one in its column
+-- the identifiers of slots 1 to 11
 abbrev pub identifiers : List (List ℕ)
 identifiers =
     certificate_extension 35  -- authority key id
@@ -57,7 +53,6 @@ identifiers =
     ∷ certificate_extension 31  -- CRL points
     ∷ nocheck
     ∷ certificate_extension 30  -- name constraints
-    ∷ interim_indicator
     ∷ []
 
 -- the position of an identifier in a list, the first of which has position k; 0 if it is not there
@@ -68,7 +63,7 @@ position_from k (i ∷ is) identifier = cond (same_by exactly identifier i) k (p
 unfoldable pub slot_for : List ℕ → ℕ
 slot_for identifier = position_from 1 identifiers identifier
 
--- 1 to 12 as in the table, 0 for an identifier that is not in it
+-- 1 to 11 as in the table, 0 for an identifier that is not in it
 abbrev pub slot_of : List ℕ → Head → ℕ
 slot_of s h = slot_for (identifier_of s h)
 

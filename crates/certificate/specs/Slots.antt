@@ -14,9 +14,9 @@ unfoldable pub numbers_from : ℕ → ℕ → List ℕ
 numbers_from k zero = []
 numbers_from k (suc n) = k ∷ numbers_from (k + 1) n
 
--- slot 0, for identifiers that the table does not have, and 1 to 12
+-- slot 0, for identifiers that the table does not have, and 1 to 11
 abbrev pub slot_count : ℕ
-slot_count = 13
+slot_count = 12
 
 abbrev pub by_slot : {A : Type 0} → (ℕ → A) → List A
 by_slot f = map f (numbers_from 0 slot_count)

@@ -1,6 +1,6 @@
 -- How an extension of document 01's table stands in a certificate ("Rules on extensions"): "other rules see the first only", and its value is good if it is
--- "exactly one sound element of its RFC ASN.1". All rules on extensions, from 300+s on and 120, go by this.
-use Rattle.std.specs.Prelude.{List, [], ◌∷◌, map, Bool, true, false, cond, ℕ, ◌-◌, get_or}
+-- "exactly one sound element of its RFC ASN.1". All rules on extensions, 300+s to 424 and 120, go by this.
+use Rattle.std.specs.Prelude.{List, [], ◌∷◌, map, cond, ℕ, ◌-◌, get_or}
 use Rattle.octets.specs.Same.{same_by, exactly}
 use Rattle.der.specs.Elements.{is_empty}
 use Rattle.der.specs.Members.{members_in, first_in}
@@ -33,31 +33,6 @@ identifier_at k = get_or identifiers (k - 1) []
 -- the extension in slot k, of a SEQUENCE OF Extension
 unfoldable pub standing_in : List ℕ → Head → ℕ → Standing
 standing_in s list k = first_with s k (identifier_at k) (members_in s list)
-
--- ---- what breaks a rule, by how an extension stands
-
-abbrev pub is_missing : Standing → Bool
-is_missing Standing.missing = true
-is_missing (Standing.bad x) = false
-is_missing (Standing.good x v) = false
-
--- a rule on an Extension that is there, whatever its value
-abbrev pub where_there : Standing → (Extension → List Head) → List Head
-where_there Standing.missing broken = []
-where_there (Standing.bad x) broken = broken x
-where_there (Standing.good x v) broken = broken x
-
--- on one that fails 340+s
-abbrev pub where_bad : Standing → (Extension → List Head) → List Head
-where_bad Standing.missing broken = []
-where_bad (Standing.bad x) broken = broken x
-where_bad (Standing.good x v) broken = []
-
--- on an extension and its value: "rules below, and 120, are not judged if the extension is missing or fails 340+s"
-abbrev pub where_good : Standing → (Extension → Head → List Head) → List Head
-where_good Standing.missing broken = []
-where_good (Standing.bad x) broken = []
-where_good (Standing.good x v) broken = broken x v
 
 -- ---- of the whole table
 

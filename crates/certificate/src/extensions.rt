@@ -64,9 +64,6 @@ fn slot_for(s: &[u8], body: usize, n: usize) -> usize
     if octets::equals(s, body, n, b"\x2B\x06\x01\x05\x05\x07\x30\x01\x05") {
         return 10;
     }
-    if octets::equals(s, body, n, b"\x60\x86\x48\x01\x65\x03\x06\x09\x01") {
-        return 12;
-    }
     0
 }
 

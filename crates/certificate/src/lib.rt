@@ -3,12 +3,10 @@ mod extensions;
 mod fields;
 mod issuer;
 mod key;
-mod parameters;
 mod slots;
 
 pub use extensions::{Extension, extension_of, is_period, same_identifier, seen_before, slot_of};
 pub use fields::{Certificate, read};
 pub use issuer::{Issuer, read_issuer};
 pub use key::{Key, KeyKind, key_of};
-pub use parameters::{is_approved_curve, is_curve, is_null};
 pub use slots::{SLOTS, Slot, SlotTable, read_slots};

@@ -10,8 +10,8 @@ ghost use Rattle.certificate.specs.Workings.Slots.{firsts_of};
 use crate::extensions::{extension_of, seen_before, slot_of};
 use der::Head;
 
-// Slot 0 is for identifiers that the table does not have; it has 1 to 12.
-pub const SLOTS: usize = 13;
+// Slot 0 is for identifiers that the table does not have; it has 1 to 11.
+pub const SLOTS: usize = 12;
 
 // The first Extension in a slot.
 #[derive(Drop)]

@@ -2,7 +2,7 @@
 // `deckpack NUMBER PROFILE CERTIFICATE ISSUER`.
 //
 // NUMBER and PROFILE are decimal digits, CERTIFICATE and ISSUER name files in DER. A refusal goes to standard error, as
-// `refused 3: the profile is not 1 to 8`, and then nothing is written; so it is where the arguments are no such four
+// `refused 3: the profile is not 1, 2, 3 or 4`, and then nothing is written; so it is where the arguments are no such four
 // or five, which the usage line says, and where a file cannot be read. A deck is opened once the record is judged. The
 // exit status is 0 in each case, since a Rattle program has no other; `bin/deckpack` makes a status of what was said.
 mod appending;
@@ -73,7 +73,7 @@ fn pack_files(target: Target, number: u32, profile: u8) {
     pack(target, number, profile, &certificate[..n], &issuer[..m]);
 }
 
-// A profile past 255 counts as 255, which is refused by 3 as every profile is that is not 1 to 8.
+// A profile past 255 counts as 255, which is refused by 3 as every profile is that is not 1, 2, 3 or 4.
 fn profile_octet(profile: u32) -> u8
     ensures { result ≡ min profile 255 }
 {

@@ -28,7 +28,7 @@ fn say_inadmissible(r: Inadmissible) {
         Inadmissible::IssuerLength => say(
             b"the issuer's certificate has no octets, or more than 8,192\n",
         ),
-        Inadmissible::UnknownProfile => say(b"the profile is not 1 to 8\n"),
+        Inadmissible::UnknownProfile => say(b"the profile is not 1, 2, 3 or 4\n"),
     }
 }
 

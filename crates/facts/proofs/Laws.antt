@@ -4,5 +4,4 @@ pub mod Fields
 pub mod Key
 pub mod Inside
 pub mod Slots
-pub mod Standings
 pub mod Case

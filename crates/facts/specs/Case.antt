@@ -1,5 +1,5 @@
 -- What a rule may look at.
-use Rattle.std.specs.Prelude.{Bool, cond, ◌&&◌, List, ℕ, get_or}
+use Rattle.std.specs.Prelude.{Bool, ◌&&◌, List, ℕ, get_or}
 use Rattle.der.specs.Members.{missing}
 use Rattle.der.specs.declared.header.Head.{Head}
 use Rattle.certificate.specs.Fields.{certificate_of}
@@ -38,10 +38,6 @@ case_in s k =
 -- how the extension in slot k of the table stands
 abbrev pub standing_of : Case → ℕ → Standing
 standing_of f k = standing_at f.table k
-
--- the place of an extension that is missing: "at the extension list, or TBS"
-abbrev pub list_place : Certificate → Head
-list_place c = cond c.extensions.sound c.extensions c.tbs
 
 -- ---- as the code has it
 

@@ -2,10 +2,9 @@
 // read once. Every group of rules takes the same: the profile, the certificate's octets, these, and the issuer's octets.
 ghost use Rattle.std.specs.Prelude.{◌≡◌};
 ghost use Rattle.facts.specs.Kinds.{is_rsa, is_elliptic_curve};
-ghost use Rattle.facts.specs.Case.{facts_of, list_place};
+ghost use Rattle.facts.specs.Case.{facts_of};
 
 use certificate::{Certificate, Issuer, Key, KeyKind, SLOTS, Slot};
-use der::Head;
 
 #[derive(Drop)]
 pub struct Facts {
@@ -65,17 +64,6 @@ pub fn issuer_in(f: Facts) -> Issuer
     ensures { result ≡ f.issuer }
 {
     f.issuer
-}
-
-// The place of an extension that is missing: "at the extension list, or TBS".
-pub fn list_place(c: Certificate) -> Head
-    ensures { result ≡ list_place c }
-{
-    let list = c.extensions;
-    if list.sound {
-        return list;
-    }
-    c.tbs
 }
 
 pub fn is_rsa(kind: KeyKind) -> bool

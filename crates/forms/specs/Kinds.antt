@@ -1,16 +1,16 @@
 -- What rules say of one item (document 01, "Rules on fields" and "Rules on extensions"). Each kind cites its rule where the item's room defines it:
--- subjects 112 to 122, usages 407 and 408, policies 409 to 411 and 503, hosts 412 to 414, locations 415 to 419, 423, 424, 504 and 505, badges 507 and 508.
+-- subjects 112 to 122, usages 407 and 408, policies 409 to 411, hosts 412 to 414, locations 415 to 419, 423 and 424.
 use Rattle.std.specs.Prelude.{Bool, not, ◌&&◌, List, ℕ, eqb}
 use Rattle.forms.specs.declared.kinds.Kind.{Kind}
 use Rattle.forms.specs.declared.kinds.Kind.TheVariants.{Attribute, Foreign, OtherCountry, OtherOrganization, OtherState, OtherAuthority, Crowded}
 use Rattle.forms.specs.declared.kinds.Kind.TheVariants.{Repeated, Unwanted, OutOfPlace, WantedPurpose, OtherPurpose}
 use Rattle.forms.specs.declared.kinds.Kind.TheVariants.{FederalPolicy, ForumPolicy, OtherQualifier, NotHost, Underscore, NoHostName}
-use Rattle.forms.specs.declared.kinds.Kind.TheVariants.{UriBy, NotHttpBy, HttpUri, OtherUri, Restricted, ListedPolicy, HttpBy, FascN, Uuid}
+use Rattle.forms.specs.declared.kinds.Kind.TheVariants.{UriBy, NotHttpBy, HttpUri, OtherUri, Restricted}
 use Rattle.forms.specs.declared.extensions.Repeats.{Repeats}
 use Rattle.der.specs.declared.header.Head.{Head}
 use Rattle.profiles.specs.Fields.{allows_attribute, takes_utf8}
 use Rattle.profiles.specs.Extensions.{mark_of, is_unwanted, is_out_of_place}
-use Rattle.profiles.specs.Values.{wanted_purpose, allows_purpose, wants_forum, lists_policy}
+use Rattle.profiles.specs.Values.{wanted_purpose, allows_purpose, wants_forum}
 use Rattle.profiles.specs.declared.fields.Profile.{Profile}
 use Rattle.certificate.specs.Extensions.{extension_of, slot_of, is_period, seen_before}
 use Rattle.subjects.specs.Types.{arc_of}
@@ -18,14 +18,12 @@ use Rattle.subjects.specs.Texts.{is_other_country, is_other_organization, is_oth
 use Rattle.subjects.specs.Authorities.{is_other_authority}
 use Rattle.subjects.specs.Sets.{is_crowded}
 use Rattle.usages.specs.Purposes.{purpose_arc}
-use Rattle.policies.specs.Policies.{policy_below, forum_arc, federal_policy_arc, other_qualifier}
+use Rattle.policies.specs.Policies.{policy_below, forum_arc, other_qualifier}
 use Rattle.hosts.specs.Names.{is_dns_name}
 use Rattle.hosts.specs.Hosts.{has_underscore, no_host}
 use Rattle.locations.specs.Uris.{is_http, is_other_uri}
-use Rattle.locations.specs.Access.{uri_by, not_http_by, http_by}
+use Rattle.locations.specs.Access.{uri_by, not_http_by}
 use Rattle.locations.specs.Points.{is_restricted}
-use Rattle.badges.specs.Uuids.{is_uuid_uri}
-use Rattle.badges.specs.Cards.{is_fasc_n}
 
 -- ---- attributes
 
@@ -75,10 +73,6 @@ is_forum_policy p s h = wants_forum p (forum_arc s h)
 abbrev pub is_no_dns_name : Head → Bool
 is_no_dns_name h = not (is_dns_name h)
 
--- 503 "at least one policy of its printed list" (document 02, CR 4): this is one
-abbrev pub is_listed_policy : Profile → List ℕ → Head → Bool
-is_listed_policy p s h = lists_policy p (federal_policy_arc s h)
-
 -- ---- all of them
 
 abbrev pub of_kind : Kind → Profile → List ℕ → Head → Bool
@@ -105,7 +99,3 @@ of_kind (NotHttpBy method) p s h = not_http_by s method h
 of_kind HttpUri p s h = is_http s h
 of_kind OtherUri p s h = is_other_uri s h
 of_kind Restricted p s h = is_restricted s h
-of_kind ListedPolicy p s h = is_listed_policy p s h
-of_kind (HttpBy method) p s h = http_by s method h
-of_kind FascN p s h = is_fasc_n s h
-of_kind Uuid p s h = is_uuid_uri s h

@@ -23,10 +23,6 @@ members_of_each s (h ∷ hs) = members_in s h ++ members_of_each s hs
 unfoldable pub items_within : Nest → List ℕ → ℕ → ℕ → List Head
 items_within nest s at end = members_of_each s (map (holder_in nest s) (children_of s at end))
 
--- the names of the full names of CRL points
-abbrev pub full_names_in : List ℕ → Head → List Head
-full_names_in s points = items_within Point s points.body points.end
-
 -- the attributes of a name "in the order of the encoding, across and inside sets"
 abbrev pub attributes_in : List ℕ → Head → List Head
 attributes_in s name = items_within Set s name.body name.end

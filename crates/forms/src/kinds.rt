@@ -44,12 +44,6 @@ pub enum Kind {
     HttpUri,
     OtherUri,
     Restricted,
-    // a policy of the profile's printed list (503), an entry with this method that is an HTTP URI (504, 505)
-    ListedPolicy,
-    HttpBy(Method),
-    // a name that is a card's number (507), a UUID (508)
-    FascN,
-    Uuid,
 }
 
 // Whether an item is of this kind.
@@ -80,9 +74,5 @@ pub fn is_of_kind(kind: Kind, p: Profile, s: &[u8], h: Head) -> bool
         Kind::HttpUri => locations::is_http(s, h),
         Kind::OtherUri => locations::is_other_uri(s, h),
         Kind::Restricted => locations::restricted(s, h),
-        Kind::ListedPolicy => profiles::lists_policy(p, policies::federal_arc(s, h)),
-        Kind::HttpBy(method) => locations::http_by(s, h, method),
-        Kind::FascN => badges::is_fasc_n(s, h),
-        Kind::Uuid => badges::is_uuid_uri(s, h),
     }
 }

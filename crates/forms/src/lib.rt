@@ -13,6 +13,4 @@ pub use firsts::{first_within, none_of, none_within};
 pub use judged::{judge_each, judge_one, judge_within};
 pub use kinds::Kind;
 pub use nests::Nest;
-pub use values::{
-    judge_bad, judge_inner, judge_items, judge_missing, judge_some, judge_there, judge_value,
-};
+pub use values::{judge_inner, judge_items, judge_value};

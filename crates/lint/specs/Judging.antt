@@ -47,7 +47,7 @@ or_else (Accepted p) b = b
 unfoldable pub both_sides : Profile → List ℕ → List ℕ → Judgement
 both_sides p certificate issuer = or_else (side_judgement p Certificate certificate) (side_judgement p Issuer issuer)
 
--- 3 "3 is given for profiles not 1 to 8" (document 02, CR 4)
+-- 3 "3 is given for profiles not 1 to 4" (document 02, CR 1)
 abbrev pub for_profile : Asked → Admission
 for_profile Unknown = Admissions.Refused UnknownProfile
 for_profile (For p) = Admissions.Admitted p

@@ -21,7 +21,7 @@ pub enum Inadmissible {
     CertificateLength,
     // the issuer has
     IssuerLength,
-    // the profile is not 1 to 8
+    // the profile is not 1 to 4
     UnknownProfile,
 }
 

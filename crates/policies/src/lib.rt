@@ -1,4 +1,4 @@
 // Certificate policies and their qualifiers.
 mod policies;
 
-pub use policies::{federal_arc, forum_arc, is_federal, other_qualifier, qualifiers_of};
+pub use policies::{forum_arc, is_federal, other_qualifier, qualifiers_of};

@@ -1,10 +1,8 @@
--- Document 01's table ("Rules on extensions"), column by column, with the columns that document 02 adds (CR 1 and CR 4), and what its words mean for the rules.
-use Rattle.std.specs.Prelude.{Bool, true, false, cond, not, ◌&&◌, ◌||◌, List, [], ◌∷◌, ℕ, eqb, get_or}
+-- Document 01's table ("Rules on extensions"), column by column, with the column that document 02 adds (CR 1), and what its words mean for the rules.
+use Rattle.std.specs.Prelude.{Bool, true, false, cond, not, ◌||◌, List, [], ◌∷◌, ℕ, eqb, get_or}
 use Rattle.profiles.specs.Fields.{profile_number}
-use Rattle.profiles.specs.declared.fields.Badge.{Badge}
-use Rattle.profiles.specs.declared.fields.Badge.TheVariants.{Signature, Piv, PivInteroperable, Derived}
 use Rattle.profiles.specs.declared.fields.Profile.{Profile}
-use Rattle.profiles.specs.declared.fields.Profile.TheVariants.{Domain, Organization, Responder, Subordinate, Holder}
+use Rattle.profiles.specs.declared.fields.Profile.TheVariants.{Domain, Organization, Responder, Subordinate}
 use Rattle.profiles.specs.declared.extensions.Mark.{Mark}
 use Rattle.profiles.specs.declared.extensions.Mark.TheVariants.{Mandatory, Optional, Forbidden, Other, Unlisted}
 use Rattle.profiles.specs.declared.extensions.Criticality.{Criticality}
@@ -25,18 +23,6 @@ abbrev pub subordinate_column : List Mark
 subordinate_column =
     Mandatory ∷ Mandatory ∷ Mandatory ∷ Mandatory ∷ Mandatory ∷ Mandatory ∷ Optional ∷ Mandatory ∷ Mandatory ∷ Other ∷ Mandatory ∷ []
 
--- "extensions 1, 3, 4, 6, 8 and 9 are mandatory, 7 in 6 to 8 only, in 5 optional, as is 5 in all; 2, 10 and 11 are "other"" (CR 4)
-abbrev pub names_mark : Badge → Mark
-names_mark Signature = Optional
-names_mark Piv = Mandatory
-names_mark PivInteroperable = Mandatory
-names_mark Derived = Mandatory
-
--- where names is what is said of 7, the alternative name
-abbrev pub badge_column : Mark → List Mark
-badge_column names =
-    Mandatory ∷ Other ∷ Mandatory ∷ Mandatory ∷ Optional ∷ Mandatory ∷ names ∷ Mandatory ∷ Mandatory ∷ Other ∷ Other ∷ []
-
 -- what a column says of a slot; slot 0 stands for the extensions that are not in the table
 abbrev pub mark_in : List Mark → ℕ → Mark
 mark_in column slot = get_or (Unlisted ∷ column) slot Unlisted
@@ -46,15 +32,10 @@ mark_of Domain slot = mark_in server_column slot
 mark_of Organization slot = mark_in server_column slot
 mark_of Responder slot = mark_in responder_column slot
 mark_of Subordinate slot = mark_in subordinate_column slot
-mark_of (Holder b) slot = mark_in (badge_column (names_mark b)) slot
 
 -- "crit", or none: an extension without it must not be critical
 abbrev pub crit_if : Bool → Criticality
 crit_if written = cond written Must MustNot
-
--- "Usage is critical; where "Critical" is blank, 321, 323 and 328 hold by RFC 5280, and no other is judged" (CR 4): both key identifiers and AIA must not be
-abbrev pub badge_criticality : ℕ → Criticality
-badge_criticality slot = cond (eqb slot 4) Must (cond (eqb slot 1 || (eqb slot 3 || eqb slot 8)) MustNot NotJudged)
 
 -- "crit": basic constraints 2 and key usage 4 in column S, key usage 4 and extended key usage 5 in column O; "2, 4 and 11 are critical" (CR 1)
 abbrev pub criticality_of : Profile → ℕ → Criticality
@@ -62,13 +43,6 @@ criticality_of Domain slot = crit_if (eqb slot 2 || eqb slot 4)
 criticality_of Organization slot = crit_if (eqb slot 2 || eqb slot 4)
 criticality_of Responder slot = crit_if (eqb slot 4 || eqb slot 5)
 criticality_of Subordinate slot = crit_if (eqb slot 2 || (eqb slot 4 || eqb slot 11))
-criticality_of (Holder b) slot = badge_criticality slot
-
--- something is said of it
-abbrev pub is_said : Criticality → Bool
-is_said Must = true
-is_said MustNot = true
-is_said NotJudged = false
 
 -- 320+s "critical where the table has no "crit", or the reverse"
 abbrev pub is_miscritical : Criticality → Bool → Bool
@@ -98,21 +72,15 @@ numbers_where test [] = []
 numbers_where test (p ∷ ps) = cond (test p) (profile_number p ∷ numbers_where test ps) (numbers_where test ps)
 
 abbrev pub profiles_where : (Profile → Bool) → List ℕ
-profiles_where test =
-    numbers_where test
-    (Domain ∷ Organization ∷ Responder ∷ Subordinate ∷ Holder Signature ∷ Holder Piv ∷ Holder PivInteroperable ∷ Holder Derived ∷ [])
+profiles_where test = numbers_where test (Domain ∷ Organization ∷ Responder ∷ Subordinate ∷ [])
 
 -- 300+s is for those in which the extension is "an M"
 abbrev pub mandatory_in : ℕ → List ℕ
 mandatory_in slot = profiles_where (λ p. is_mandatory (mark_of p slot))
 
--- 340+s is for those in which it is not "no" or "other"
+-- 320+s and 340+s are for those in which it is not "no" or "other"
 abbrev pub listed_in : ℕ → List ℕ
 listed_in slot = profiles_where (λ p. is_judged (mark_of p slot))
-
--- and so is 320+s, where something is said of its criticality
-abbrev pub criticality_in : ℕ → List ℕ
-criticality_in slot = profiles_where (λ p. is_judged (mark_of p slot) && is_said (criticality_of p slot))
 
 -- 362 ""no" or not in the table"
 abbrev pub is_unwanted : Mark → Bool

@@ -5,7 +5,7 @@ use Rattle.octets.specs.Octets.{is_one_of}
 use Rattle.profiles.specs.Fields.{profile_number}
 use Rattle.profiles.specs.declared.fields.Profile.{Profile}
 use Rattle.profiles.specs.declared.levels.Level.{Level}
-use Rattle.profiles.specs.declared.levels.Level.TheVariants.{Must, Should}
+use Rattle.profiles.specs.declared.levels.Level.TheVariants.{Must}
 
 -- "S is profiles 1 and 2, O is 3"
 abbrev pub S : List ℕ
@@ -26,26 +26,11 @@ subordinate = 4 ∷ []
 abbrev pub server_and_subordinate : List ℕ
 server_and_subordinate = 1 ∷ 2 ∷ subordinate
 
--- what document 01 has without a letter, and CR 1 says to hold: servers, responders and authorities, which are no persons
-abbrev pub machines : List ℕ
-machines = 1 ∷ 2 ∷ 3 ∷ subordinate
-
--- "document 003 as profile 5 and the three columns of 004 as 6 (PIV), 7 (PIV-I) and 8 (Derived)" (document 02, CR 4)
-abbrev pub cards : List ℕ
-cards = 6 ∷ 7 ∷ 8 ∷ []
-
-abbrev pub badges : List ℕ
-badges = 5 ∷ cards
-
--- what CR 1 has for profile 4, and CR 4 for all of its own
-abbrev pub subordinate_and_badges : List ℕ
-subordinate_and_badges = 4 ∷ badges
-
--- what CR 1 leaves to hold in 1 to 4, and CR 4 says to hold
+-- what document 01 has without a letter, and CR 1 says to hold
 abbrev pub every_profile : List ℕ
-every_profile = 1 ∷ 2 ∷ 3 ∷ subordinate_and_badges
+every_profile = 1 ∷ 2 ∷ 3 ∷ subordinate
 
--- a rule, its level, and the profiles that judge it: "all rules so far are 1", which is must (CR 3); "a critical purpose list is a "should" finding" (CR 4)
+-- a rule, its level, and the profiles that judge it: "all rules so far are 1", which is must (CR 3)
 abbrev pub rule_table : List (ℕ × Level × List ℕ)
 rule_table =
     -- fields
@@ -61,10 +46,10 @@ rule_table =
     ∷ (110, Must, every_profile)
     ∷ (111, Must, every_profile)
     -- subject
-    ∷ (112, Must, machines)
-    ∷ (113, Must, machines)
-    ∷ (114, Must, machines)
-    ∷ (115, Must, machines)
+    ∷ (112, Must, every_profile)
+    ∷ (113, Must, every_profile)
+    ∷ (114, Must, every_profile)
+    ∷ (115, Must, every_profile)
     ∷ (116, Must, 2 ∷ 3 ∷ subordinate)
     ∷ (117, Must, 2 ∷ 3 ∷ subordinate)
     ∷ (118, Must, 2 ∷ [])
@@ -73,24 +58,24 @@ rule_table =
     ∷ (121, Must, O)
     ∷ (122, Must, subordinate)
     -- key
-    ∷ (201, Must, machines)
+    ∷ (201, Must, every_profile)
     ∷ (202, Must, server_and_responder)
     ∷ (203, Must, S)
     ∷ (204, Must, every_profile)
     ∷ (205, Must, server_and_responder)
     ∷ (206, Must, server_and_responder)
     ∷ (207, Must, O)
-    ∷ (208, Must, subordinate_and_badges)
+    ∷ (208, Must, subordinate)
     -- an extension that is missing (300 + slot)
     ∷ (301, Must, every_profile)
     ∷ (302, Must, server_and_subordinate)
     ∷ (303, Must, every_profile)
     ∷ (304, Must, every_profile)
-    ∷ (305, Must, machines)
+    ∷ (305, Must, every_profile)
     ∷ (306, Must, every_profile)
-    ∷ (307, Must, 1 ∷ 2 ∷ cards)
+    ∷ (307, Must, S)
     ∷ (308, Must, every_profile)
-    ∷ (309, Must, subordinate_and_badges)
+    ∷ (309, Must, subordinate)
     ∷ (310, Must, O)
     ∷ (311, Must, subordinate)
     -- its criticality (320 + slot)
@@ -98,11 +83,11 @@ rule_table =
     ∷ (322, Must, server_and_subordinate)
     ∷ (323, Must, every_profile)
     ∷ (324, Must, every_profile)
-    ∷ (325, Must, machines)
-    ∷ (326, Must, machines)
-    ∷ (327, Must, machines)
+    ∷ (325, Must, every_profile)
+    ∷ (326, Must, every_profile)
+    ∷ (327, Must, every_profile)
     ∷ (328, Must, every_profile)
-    ∷ (329, Must, machines)
+    ∷ (329, Must, every_profile)
     ∷ (330, Must, O)
     ∷ (331, Must, subordinate)
     -- its value (340 + slot)
@@ -124,43 +109,31 @@ rule_table =
     -- what values say
     ∷ (401, Must, every_profile)
     ∷ (402, Must, S)
-    ∷ (403, Must, machines)
+    ∷ (403, Must, every_profile)
     ∷ (404, Must, server_and_responder)
     ∷ (405, Must, server_and_responder)
-    ∷ (407, Must, machines)
+    ∷ (407, Must, every_profile)
     ∷ (408, Must, server_and_responder)
-    ∷ (409, Must, machines)
+    ∷ (409, Must, every_profile)
     ∷ (410, Must, server_and_subordinate)
     ∷ (411, Must, server_and_responder)
     ∷ (412, Must, server_and_responder)
     ∷ (413, Must, server_and_subordinate)
     ∷ (414, Must, server_and_responder)
     ∷ (415, Must, server_and_subordinate)
-    ∷ (416, Must, machines)
+    ∷ (416, Must, every_profile)
     ∷ (417, Must, server_and_subordinate)
-    ∷ (418, Must, machines)
+    ∷ (418, Must, every_profile)
     ∷ (419, Must, every_profile)
     ∷ (421, Must, subordinate)
     ∷ (422, Must, subordinate)
     ∷ (423, Must, subordinate)
     ∷ (424, Must, subordinate)
-    -- badges
-    ∷ (501, Must, badges)
-    ∷ (502, Must, badges)
-    ∷ (503, Must, badges)
-    ∷ (504, Must, badges)
-    ∷ (505, Must, badges)
-    ∷ (506, Must, badges)
-    ∷ (507, Must, 6 ∷ [])
-    ∷ (508, Must, cards)
-    ∷ (509, Must, 6 ∷ 8 ∷ [])
-    ∷ (510, Must, 6 ∷ 8 ∷ [])
-    ∷ (511, Should, badges)
     ∷ []
 
 -- every rule's number is below this
 abbrev pub rule_limit : ℕ
-rule_limit = 512
+rule_limit = 425
 
 -- what the table says of a rule; of what is no rule it says no profile, so that no entry has its level
 unfoldable pub row_of : List (ℕ × Level × List ℕ) → ℕ → Level × List ℕ

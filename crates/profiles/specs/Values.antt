@@ -1,18 +1,13 @@
--- What the profiles ask of the values of extensions (document 01, "Rules on extensions", and document 02, CR 1 and CR 4), by one arm a profile.
+-- What the profiles ask of the values of extensions (document 01, "Rules on extensions", and document 02, CR 1), by one arm a profile.
 use Rattle.std.specs.Prelude.{Bool, true, false, ◌||◌, List, [], ◌∷◌, ℕ, ◌+◌, ◌-◌, ◌^◌, eqb}
-use Rattle.profiles.specs.declared.fields.Badge.{Badge}
-use Rattle.profiles.specs.declared.fields.Badge.TheVariants.{Signature, Piv, PivInteroperable, Derived}
 use Rattle.profiles.specs.declared.fields.Profile.{Profile}
-use Rattle.profiles.specs.declared.fields.Profile.TheVariants.{Domain, Organization, Responder, Subordinate, Holder}
+use Rattle.profiles.specs.declared.fields.Profile.TheVariants.{Domain, Organization, Responder, Subordinate}
 
--- ---- 404, 405, 422 and 502: KeyUsage ::= BIT STRING { digital_signature (0), non_repudiation (1), key_encipherment (2), .. key_agreement (4), key_cert_sign (5),
--- ---- crl_sign (6), .. } (RFC 5280, 4.2.1.3), bits by their names
+-- ---- 404, 405 and 422: KeyUsage ::= BIT STRING { digital_signature (0), .. key_encipherment (2), .. key_agreement (4), key_cert_sign (5), crl_sign (6), .. }
+-- ---- (RFC 5280, 4.2.1.3), bits by their names
 
 abbrev pub digital_signature : ℕ
 digital_signature = 0
-
-abbrev pub non_repudiation : ℕ
-non_repudiation = 1
 
 abbrev pub key_encipherment : ℕ
 key_encipherment = 2
@@ -26,14 +21,12 @@ key_cert_sign = 5
 abbrev pub crl_sign : ℕ
 crl_sign = 6
 
--- what may be set besides digital_signature: "keyEncipherment with RSA .. (S); none (O ..)". Neither a subordinate CA nor a badge
--- is judged by 405.
+-- what may be set besides digital_signature: "keyEncipherment with RSA .. (S); none (O ..)". A subordinate CA is not judged by 405.
 abbrev pub usage_with_rsa : Profile → List ℕ
 usage_with_rsa Domain = key_encipherment ∷ []
 usage_with_rsa Organization = key_encipherment ∷ []
 usage_with_rsa Responder = []
 usage_with_rsa Subordinate = []
-usage_with_rsa (Holder b) = []
 
 -- "keyAgreement with EC (S); none (O ..)"
 abbrev pub usage_with_curve : Profile → List ℕ
@@ -41,23 +34,11 @@ usage_with_curve Domain = key_agreement ∷ []
 usage_with_curve Organization = key_agreement ∷ []
 usage_with_curve Responder = []
 usage_with_curve Subordinate = []
-usage_with_curve (Holder b) = []
 
 -- the octet in which these of the first eight bits are set, bit 0 being the high one (X.690, 8.6.2.1)
 abbrev pub octet_with : List ℕ → ℕ
 octet_with [] = 0
 octet_with (k ∷ ks) = 2 ^ (7 - k) + octet_with ks
-
--- 502 "usage exactly digitalSignature, for 5 with nonRepudiation" (CR 4)
-abbrev pub asks_non_repudiation : Profile → Bool
-asks_non_repudiation Domain = false
-asks_non_repudiation Organization = false
-asks_non_repudiation Responder = false
-asks_non_repudiation Subordinate = false
-asks_non_repudiation (Holder Signature) = true
-asks_non_repudiation (Holder Piv) = false
-asks_non_repudiation (Holder PivInteroperable) = false
-asks_non_repudiation (Holder Derived) = false
 
 -- ---- purposes, by their arcs below id-kp, 1.3.6.1.5.5.7.3 (RFC 5280, 4.2.1.12)
 
@@ -70,57 +51,25 @@ client_auth = 2
 abbrev pub ocsp_signing : ℕ
 ocsp_signing = 9
 
--- 407 "serverAuth (S) or OCSPSigning (O) present"; "407 (serverAuth)" (CR 1). Of a badge "purposes are not judged otherwise" (CR 4).
+-- 407 "serverAuth (S) or OCSPSigning (O) present"; "407 (serverAuth)" (CR 1)
 abbrev pub wanted_purpose : Profile → ℕ
 wanted_purpose Domain = server_auth
 wanted_purpose Organization = server_auth
 wanted_purpose Responder = ocsp_signing
 wanted_purpose Subordinate = server_auth
-wanted_purpose (Holder b) = 0
 
--- 408 "each other purpose, clientAuth excepted for S": those that are not other. (A wanted purpose that is named twice is not another purpose.) Neither
--- a subordinate CA nor a badge is judged by it.
+-- 408 "each other purpose, clientAuth excepted for S": those that are not other. (A wanted purpose that is named twice is not another purpose.) A
+-- subordinate CA is not judged by it.
 abbrev pub allows_purpose : Profile → ℕ → Bool
 allows_purpose Domain arc = eqb arc server_auth || eqb arc client_auth
 allows_purpose Organization arc = eqb arc server_auth || eqb arc client_auth
 allows_purpose Responder arc = eqb arc ocsp_signing
 allows_purpose Subordinate arc = true
-allows_purpose (Holder b) arc = true
 
--- ---- 410 "2.23.140.1.2.1 (1) or 2.23.140.1.2.2 (2), from the CA/Browser Forum", by the last arc; a responder and a badge are not
--- ---- judged; "410 (either forum policy)" (CR 1)
+-- ---- 410 "2.23.140.1.2.1 (1) or 2.23.140.1.2.2 (2), from the CA/Browser Forum", by the last arc; a responder is not judged; "410 (either forum policy)" (CR 1)
 
 abbrev pub wants_forum : Profile → ℕ → Bool
 wants_forum Domain arc = eqb arc 1
 wants_forum Organization arc = eqb arc 2
 wants_forum Responder arc = false
 wants_forum Subordinate arc = eqb arc 1 || eqb arc 2
-wants_forum (Holder b) arc = false
-
--- ---- 503 "at least one policy of its printed list" (CR 4), by the last arc below 2.16.840.1.101.3.2.1.3: id-fpki-common-policy, -hardware and -High (document 003);
--- ---- id-fpki-common-authentication, id-fpki-certpcy-pivi-hardware, id-fpki-common-derived-pivAuth and -hardware (document 004, by its columns)
-
-abbrev pub badge_lists_policy : Badge → ℕ → Bool
-badge_lists_policy Signature arc = eqb arc 6 || (eqb arc 7 || eqb arc 16)
-badge_lists_policy Piv arc = eqb arc 13
-badge_lists_policy PivInteroperable arc = eqb arc 18
-badge_lists_policy Derived arc = eqb arc 40 || eqb arc 41
-
-abbrev pub lists_policy : Profile → ℕ → Bool
-lists_policy Domain arc = false
-lists_policy Organization arc = false
-lists_policy Responder arc = false
-lists_policy Subordinate arc = false
-lists_policy (Holder b) arc = badge_lists_policy b arc
-
--- ---- 508 "PIV needs .. if notBefore falls on 16 October 2015 or later, a UUID URI; PIV-I and Derived need the UUID" (CR 4)
-
-abbrev pub asks_uuid_always : Profile → Bool
-asks_uuid_always Domain = false
-asks_uuid_always Organization = false
-asks_uuid_always Responder = false
-asks_uuid_always Subordinate = false
-asks_uuid_always (Holder Signature) = false
-asks_uuid_always (Holder Piv) = false
-asks_uuid_always (Holder PivInteroperable) = true
-asks_uuid_always (Holder Derived) = true

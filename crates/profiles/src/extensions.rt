@@ -1,10 +1,9 @@
 // Document 01's table of extensions ("Rules on extensions"), and what its words mean for the rules.
 ghost use Rattle.std.specs.Prelude.{◌≡◌};
-ghost use Rattle.profiles.specs.Extensions.{server_column, responder_column, subordinate_column, names_mark, badge_column, mark_in};
-ghost use Rattle.profiles.specs.Extensions.{badge_criticality, mark_of, is_unwanted, is_out_of_place};
+ghost use Rattle.profiles.specs.Extensions.{server_column, responder_column, subordinate_column, mark_in, mark_of, is_unwanted, is_out_of_place};
 ghost use Rattle.profiles.specs.Extensions.{crit_if, criticality_of, is_miscritical};
 
-use crate::fields::{Badge, Profile};
+use crate::fields::Profile;
 
 // The table's words: M, opt, no, other. An extension that is in no row is unlisted.
 #[derive(Drop)]
@@ -79,38 +78,6 @@ fn subordinate_mark(slot: usize) -> Mark
     }
 }
 
-// Of the subject alternative name, the one extension in which badges differ.
-fn names_mark(b: Badge) -> Mark
-    ensures { result ≡ names_mark b }
-{
-    match b {
-        Badge::Signature => Mark::Optional,
-        Badge::Piv => Mark::Mandatory,
-        Badge::PivInteroperable => Mark::Mandatory,
-        Badge::Derived => Mark::Mandatory,
-    }
-}
-
-// `names` is what is said of the subject alternative name.
-fn badge_mark(names: Mark, slot: usize) -> Mark
-    ensures { result ≡ mark_in (badge_column names) slot }
-{
-    match slot {
-        1 => Mark::Mandatory,
-        2 => Mark::Other,
-        3 => Mark::Mandatory,
-        4 => Mark::Mandatory,
-        5 => Mark::Optional,
-        6 => Mark::Mandatory,
-        7 => names,
-        8 => Mark::Mandatory,
-        9 => Mark::Mandatory,
-        10 => Mark::Other,
-        11 => Mark::Other,
-        _ => Mark::Unlisted,
-    }
-}
-
 // What a profile's column says of the extension in this slot.
 pub fn mark_of(p: Profile, slot: usize) -> Mark
     ensures { result ≡ mark_of p slot }
@@ -120,7 +87,6 @@ pub fn mark_of(p: Profile, slot: usize) -> Mark
         Profile::Organization => server_mark(slot),
         Profile::Responder => responder_mark(slot),
         Profile::Subordinate => subordinate_mark(slot),
-        Profile::Holder(b) => badge_mark(names_mark(b), slot),
     }
 }
 
@@ -134,19 +100,6 @@ fn crit(written: bool) -> Criticality
     Criticality::MustNot
 }
 
-// What is said of the criticality of a badge's extensions.
-fn badge_criticality(slot: usize) -> Criticality
-    ensures { result ≡ badge_criticality slot }
-{
-    match slot {
-        4 => Criticality::Must,
-        1 => Criticality::MustNot,
-        3 => Criticality::MustNot,
-        8 => Criticality::MustNot,
-        _ => Criticality::NotJudged,
-    }
-}
-
 // Whether the column has "crit".
 pub fn criticality_of(p: Profile, slot: usize) -> Criticality
     ensures { result ≡ criticality_of p slot }
@@ -156,7 +109,6 @@ pub fn criticality_of(p: Profile, slot: usize) -> Criticality
         Profile::Organization => crit((slot == 2) | (slot == 4)),
         Profile::Responder => crit((slot == 4) | (slot == 5)),
         Profile::Subordinate => crit((slot == 2) | ((slot == 4) | (slot == 11))),
-        Profile::Holder(_) => badge_criticality(slot),
     }
 }
 

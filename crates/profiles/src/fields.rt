@@ -1,25 +1,14 @@
 // The profiles by their numbers, and what they ask of fields, subject and key: one arm a profile.
 ghost use Rattle.std.specs.Prelude.{◌≡◌};
-ghost use Rattle.profiles.specs.Fields.{asked_of, is_badge, limit_of, takes_ecdsa, allows_attribute, takes_utf8, takes_curves};
+ghost use Rattle.profiles.specs.Fields.{asked_of, limit_of, allows_attribute, takes_utf8, takes_curves};
 
-// What the badge office issues: 5 signature; 6 PIV, 7 PIV-I and 8 Derived PIV authentication.
-#[derive(Drop)]
-pub enum Badge {
-    Signature,
-    Piv,
-    PivInteroperable,
-    Derived,
-}
-
-// 1 server, domain validation; 2 server, organization validation; 3 delegated OCSP responder; 4 subordinate CA; 5 to 8
-// badges.
+// 1 server, domain validation; 2 server, organization validation; 3 delegated OCSP responder; 4 subordinate CA.
 #[derive(Drop)]
 pub enum Profile {
     Domain,
     Organization,
     Responder,
     Subordinate,
-    Holder(Badge),
 }
 
 // What a profile's number asks for.
@@ -37,23 +26,7 @@ pub fn profile_of(number: u8) -> Asked
         2 => Asked::For(Profile::Organization),
         3 => Asked::For(Profile::Responder),
         4 => Asked::For(Profile::Subordinate),
-        5 => Asked::For(Profile::Holder(Badge::Signature)),
-        6 => Asked::For(Profile::Holder(Badge::Piv)),
-        7 => Asked::For(Profile::Holder(Badge::PivInteroperable)),
-        8 => Asked::For(Profile::Holder(Badge::Derived)),
         _ => Asked::Unknown,
-    }
-}
-
-pub fn is_badge(p: Profile) -> bool
-    ensures { result ≡ is_badge p }
-{
-    match p {
-        Profile::Domain => false,
-        Profile::Organization => false,
-        Profile::Responder => false,
-        Profile::Subordinate => false,
-        Profile::Holder(_) => true,
     }
 }
 
@@ -73,20 +46,6 @@ pub fn limit_of(p: Profile) -> Limit
         Profile::Organization => Limit::Days(395),
         Profile::Responder => Limit::Days(45),
         Profile::Subordinate => Limit::Years(10),
-        Profile::Holder(_) => Limit::Years(3),
-    }
-}
-
-// Rules 105 and 106: whether a signature by ECDSA is good too.
-pub fn takes_ecdsa(p: Profile) -> bool
-    ensures { result ≡ takes_ecdsa p }
-{
-    match p {
-        Profile::Domain => false,
-        Profile::Organization => false,
-        Profile::Responder => false,
-        Profile::Subordinate => false,
-        Profile::Holder(_) => true,
     }
 }
 
@@ -99,7 +58,6 @@ pub fn allows_attribute(p: Profile, arc: u8) -> bool
         Profile::Organization => (arc == 3) | ((arc == 6) | ((arc == 10) | (arc == 8))),
         Profile::Responder => (arc == 3) | ((arc == 6) | ((arc == 10) | (arc == 11))),
         Profile::Subordinate => (arc == 3) | ((arc == 6) | (arc == 10)),
-        Profile::Holder(_) => true,
     }
 }
 
@@ -112,7 +70,6 @@ pub fn takes_utf8(p: Profile) -> bool
         Profile::Organization => true,
         Profile::Responder => true,
         Profile::Subordinate => false,
-        Profile::Holder(_) => true,
     }
 }
 
@@ -125,6 +82,5 @@ pub fn takes_curves(p: Profile) -> bool
         Profile::Organization => true,
         Profile::Responder => false,
         Profile::Subordinate => false,
-        Profile::Holder(_) => true,
     }
 }

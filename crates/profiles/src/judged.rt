@@ -2,46 +2,20 @@
 // that is k above the hundred is judged.
 ghost use Rattle.std.specs.Prelude.{◌≡◌};
 ghost use Rattle.profiles.specs.Judged.{judges};
-ghost use Rattle.profiles.specs.Workings.Bits.{of_hundred, badge_bits, judged_bits, bit_in};
+ghost use Rattle.profiles.specs.Workings.Bits.{of_hundred, judged_bits, bit_in};
 
-use crate::fields::{Badge, Profile};
+use crate::fields::Profile;
 
-// The bits of rules from 100 on, from 200, from 300, from 400, from 500.
-fn of_hundred(
-    hundred: usize,
-    fields: u64,
-    key: u64,
-    extensions: u64,
-    values: u64,
-    badges: u64,
-) -> u64
-    ensures { result ≡ of_hundred hundred fields key extensions values badges }
+// The bits of rules from 100 on, from 200, from 300, from 400.
+fn of_hundred(hundred: usize, fields: u64, key: u64, extensions: u64, values: u64) -> u64
+    ensures { result ≡ of_hundred hundred fields key extensions values }
 {
     match hundred {
         1 => fields,
         2 => key,
         3 => extensions,
         4 => values,
-        5 => badges,
         _ => 0,
-    }
-}
-
-fn badge_bits(b: Badge, hundred: usize) -> u64
-    ensures { result ≡ badge_bits b hundred }
-{
-    match b {
-        Badge::Signature => of_hundred(hundred, 0xFEE, 0x110, 0x2003FA0011A0035A, 0x80002, 0x87E),
-        Badge::Piv => of_hundred(hundred, 0xFEE, 0x110, 0x2003FA0011A003DA, 0x80002, 0xFFE),
-        Badge::PivInteroperable => of_hundred(
-            hundred,
-            0xFEE,
-            0x110,
-            0x2003FA0011A003DA,
-            0x80002,
-            0x97E,
-        ),
-        Badge::Derived => of_hundred(hundred, 0xFEE, 0x110, 0x2003FA0011A003DA, 0x80002, 0xF7E),
     }
 }
 
@@ -49,25 +23,10 @@ fn judged_bits(p: Profile, hundred: usize) -> u64
     ensures { result ≡ judged_bits p hundred }
 {
     match p {
-        Profile::Domain => of_hundred(hundred, 0x10FFEE, 0x7E, 0xA003FE003FE001FE, 0xFFFBE, 0),
-        Profile::Organization => of_hundred(
-            hundred,
-            0x1FFFEE,
-            0x7E,
-            0xA003FE003FE001FE,
-            0xFFFBE,
-            0,
-        ),
-        Profile::Responder => of_hundred(hundred, 0x23FFFE, 0xF6, 0x6007FA007FA0057A, 0xD5BBA, 0),
-        Profile::Subordinate => of_hundred(
-            hundred,
-            0x43FFEE,
-            0x112,
-            0x200BFE00BFE00B7E,
-            0x1EFA68A,
-            0,
-        ),
-        Profile::Holder(b) => badge_bits(b, hundred),
+        Profile::Domain => of_hundred(hundred, 0x10FFEE, 0x7E, 0xA003FE003FE001FE, 0xFFFBE),
+        Profile::Organization => of_hundred(hundred, 0x1FFFEE, 0x7E, 0xA003FE003FE001FE, 0xFFFBE),
+        Profile::Responder => of_hundred(hundred, 0x23FFFE, 0xF6, 0x6007FA007FA0057A, 0xD5BBA),
+        Profile::Subordinate => of_hundred(hundred, 0x43FFEE, 0x112, 0x200BFE00BFE00B7E, 0x1EFA68A),
     }
 }
 

@@ -10,12 +10,8 @@ pub use extensions::{
     Criticality, Mark, criticality_of, is_miscritical, is_out_of_place, is_unwanted, mark_of,
 };
 pub use fields::{
-    Asked, Badge, Limit, Profile, allows_attribute, is_badge, limit_of, profile_of, takes_curves,
-    takes_ecdsa, takes_utf8,
+    Asked, Limit, Profile, allows_attribute, limit_of, profile_of, takes_curves, takes_utf8,
 };
 pub use judged::holds;
 pub use levels::{Level, level_number, level_of};
-pub use values::{
-    allows_purpose, asks_non_repudiation, asks_uuid_always, lists_policy, usage_with_curve,
-    usage_with_rsa, wanted_purpose, wants_forum,
-};
+pub use values::{allows_purpose, usage_with_curve, usage_with_rsa, wanted_purpose, wants_forum};

@@ -13,7 +13,7 @@ wrong_certificate_length = 1
 abbrev pub wrong_issuer_length : ℕ
 wrong_issuer_length = 2
 
--- "profile not 1 to 3", "not 1 to 8" since document 02, CR 4; "0, 0"
+-- "profile not 1 to 3", "not 1 to 4" since document 02, CR 1; "0, 0"
 abbrev pub unknown_profile : ℕ
 unknown_profile = 3
 

@@ -1,4 +1,4 @@
--- One list of all rules, each with its number: 101 to 111, 112 to 122, 201 to 208, 301 to 363, 401 to 424, 501 to 511.
+-- One list of all rules, each with its number: 101 to 111, 112 to 122, 201 to 208, 301 to 363, 401 to 424.
 use Rattle.std.specs.Prelude.{List, ◌++◌, ℕ}
 use Rattle.profiles.specs.declared.fields.Profile.{Profile}
 use Rattle.certificate.specs.Issuer.{Known, known_of}
@@ -10,10 +10,9 @@ use Rattle.rules_subject.specs.Rules.{subject_rows}
 use Rattle.rules_key.specs.Rules.{key_rows}
 use Rattle.rules_extensions.specs.Rules.{extension_rows}
 use Rattle.rules_values.specs.Rules.{value_rows}
-use Rattle.rules_badge.specs.Rules.{badge_rows}
 
 unfoldable pub all_rules : Profile → Case → List Row
-all_rules p f = field_rows p f ++ (subject_rows p f ++ (key_rows p f ++ (extension_rows p f ++ (value_rows p f ++ badge_rows p f))))
+all_rules p f = field_rows p f ++ (subject_rows p f ++ (key_rows p f ++ (extension_rows p f ++ value_rows p f)))
 
 -- the rules of a certificate whose issuer is known, and what they find
 abbrev pub rules_for : Profile → List ℕ → Known → List Row

@@ -14,6 +14,5 @@ pub fn all_rules(room: &mut [u8], n: usize, p: Profile, s: &[u8], f: Facts, issu
     let subject = rules_subject::subject_rules(room, fields, p, s, f, issuer);
     let key = rules_key::key_rules(room, subject, p, s, f, issuer);
     let extensions = rules_extensions::extension_rules(room, key, p, s, f, issuer);
-    let values = rules_values::value_rules(room, extensions, p, s, f, issuer);
-    rules_badge::badge_rules(room, values, p, s, f, issuer)
+    rules_values::value_rules(room, extensions, p, s, f, issuer)
 }

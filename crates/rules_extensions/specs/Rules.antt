@@ -1,9 +1,9 @@
 -- Rules 301 to 363 together.
 use Rattle.std.specs.Prelude.{List, ◌++◌}
 use Rattle.profiles.specs.declared.fields.Profile.{Profile}
-use Rattle.facts.specs.Case.{Case, list_place}
+use Rattle.facts.specs.Case.{Case}
 use Rattle.report.specs.Rows.{Row}
-use Rattle.rules_extensions.specs.Slots.{rows_over}
+use Rattle.rules_extensions.specs.Slots.{list_place, rows_over}
 use Rattle.rules_extensions.specs.Identifiers.{identifier_rows}
 use Rattle.rules_extensions.specs.declared.slots.Question.TheVariants.{Missing, Criticality, Value}
 

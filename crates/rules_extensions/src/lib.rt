@@ -25,7 +25,7 @@ pub fn extension_rules(
     let c = facts::fields_in(f);
     let each = facts::slots_in(f);
     let repeated = facts::has_repeats(f);
-    let list = facts::list_place(c);
+    let list = slots::list_place(c);
     let missing = slots::over_slots(room, n, Question::Missing, p, list, each);
     let criticality = slots::over_slots(room, missing, Question::Criticality, p, list, each);
     let bad = slots::over_slots(room, criticality, Question::Value, p, list, each);

@@ -5,9 +5,9 @@ ghost use Rattle.certificate.specs.Slots.{slot_count};
 ghost use Rattle.certificate.specs.Standing.{standing_by, standings_by};
 ghost use Rattle.facts.specs.Case.{slot_in};
 ghost use Rattle.report.specs.Rows.{Puts};
-ghost use Rattle.rules_extensions.specs.Slots.{is_miscritical_at, row_at, rows_over};
+ghost use Rattle.rules_extensions.specs.Slots.{list_place, is_miscritical_at, row_at, rows_over};
 
-use certificate::{SLOTS, Slot};
+use certificate::{Certificate, SLOTS, Slot};
 use der::Head;
 use profiles::Profile;
 
@@ -19,6 +19,17 @@ pub enum Question {
     Criticality,
     // 340+s
     Value,
+}
+
+// "At the extension list, or TBS".
+pub fn list_place(c: Certificate) -> Head
+    ensures { result ≡ list_place c }
+{
+    let list = c.extensions;
+    if list.sound {
+        return list;
+    }
+    c.tbs
 }
 
 // Whether an extension in this slot is critical and must not be, or the reverse.
@@ -41,13 +52,14 @@ fn of_slot(
     requires { slot < slot_count }
     ensures { Puts p (row_at question p list slot (standing_by v) ∷ []) n room.old result room.new }
 {
+    let none = !v.good & der::is_none(v.place);
     match question {
-        Question::Missing => forms::judge_missing(room, n, p, 300 + slot, v, list),
+        Question::Missing => report::judge(room, n, p, 300 + slot, none, list),
         Question::Criticality => {
             let bad = is_miscritical_at(p, slot, v.critical);
-            forms::judge_there(room, n, p, 320 + slot, v, bad)
+            report::judge(room, n, p, 320 + slot, !none & bad, v.place)
         }
-        Question::Value => forms::judge_bad(room, n, p, 340 + slot, v),
+        Question::Value => report::judge(room, n, p, 340 + slot, !none & !v.good, v.holder),
     }
 }
 

@@ -1,12 +1,10 @@
--- Rules 105 to 108 (document 01, "Rules on fields"; document 02, CR 4).
-use Rattle.std.specs.Prelude.{Bool, not, ◌&&◌, ◌||◌, List, [], ◌∷◌, ◌++◌, ℕ}
+-- Rules 105 to 108 (document 01, "Rules on fields").
+use Rattle.std.specs.Prelude.{Bool, not, List, [], ◌∷◌, ◌++◌, ℕ}
 use Rattle.der.specs.Comparing.{contents_are, octets_are, same_element}
 use Rattle.der.specs.Oids.{oid_element, null_element}
 use Rattle.der.specs.declared.header.Head.{Head}
 use Rattle.certificate.specs.declared.fields.Certificate.{Certificate}
 use Rattle.profiles.specs.Judged.{every_profile}
-use Rattle.profiles.specs.Fields.{takes_ecdsa}
-use Rattle.profiles.specs.declared.fields.Profile.{Profile}
 use Rattle.report.specs.Rows.{Row, ◌for◌⦂◌, broken_at}
 
 -- the OBJECT IDENTIFIER sha256WithRSAEncryption, and then NULL
@@ -17,23 +15,12 @@ sha256_rsa = oid_element (1 ∷ 2 ∷ 840 ∷ 113549 ∷ 1 ∷ 1 ∷ 11 ∷ []) 
 abbrev pub is_sha256_rsa : List ℕ → Head → Bool
 is_sha256_rsa s algorithm = contents_are s algorithm sha256_rsa
 
--- ecdsa-with-SHA256, -SHA384 and -SHA512 by their last arcs, "with no parameters (RFC 5758)": the OBJECT IDENTIFIER, and then nothing (section 3.2 there)
-abbrev pub ecdsa_with : ℕ → List ℕ
-ecdsa_with hash = oid_element (1 ∷ 2 ∷ 840 ∷ 10045 ∷ 4 ∷ 3 ∷ hash ∷ [])
+-- "105 inner, 106 outer algorithm is 1.2.840.113549.1.1.11 with NULL"
+abbrev pub rule105 : List ℕ → Certificate → List Head
+rule105 s c = broken_at (not (is_sha256_rsa s c.inner)) c.inner
 
-abbrev pub is_ecdsa : List ℕ → Head → Bool
-is_ecdsa s algorithm = contents_are s algorithm (ecdsa_with 2) || (contents_are s algorithm (ecdsa_with 3) || contents_are s algorithm (ecdsa_with 4))
-
--- an algorithm by which the profile's certificates may be signed
-abbrev pub is_taken : Profile → List ℕ → Head → Bool
-is_taken p s algorithm = is_sha256_rsa s algorithm || (takes_ecdsa p && is_ecdsa s algorithm)
-
--- "105 inner, 106 outer algorithm is 1.2.840.113549.1.1.11 with NULL"; "105 and 106 also take the three ECDSA identifiers listed there" (CR 4)
-abbrev pub rule105 : Profile → List ℕ → Certificate → List Head
-rule105 p s c = broken_at (not (is_taken p s c.inner)) c.inner
-
-abbrev pub rule106 : Profile → List ℕ → Certificate → List Head
-rule106 p s c = broken_at (not (is_taken p s c.outer)) c.outer
+abbrev pub rule106 : List ℕ → Certificate → List Head
+rule106 s c = broken_at (not (is_sha256_rsa s c.outer)) c.outer
 
 -- 107 "the two equal as octets (at outer)"
 abbrev pub rule107 : List ℕ → Certificate → List Head
@@ -43,10 +30,10 @@ rule107 s c = broken_at (not (same_element s c.inner s c.outer)) c.outer
 abbrev pub rule108 : List ℕ → Certificate → List ℕ → List Head
 rule108 s c name = broken_at (not (octets_are s c.issuer name)) c.issuer
 
-unfoldable pub signature_rows : Profile → List ℕ → Certificate → List ℕ → List Row
-signature_rows p s c name =
-    105 for every_profile ⦂ rule105 p s c
-    ∷ 106 for every_profile ⦂ rule106 p s c
+unfoldable pub signature_rows : List ℕ → Certificate → List ℕ → List Row
+signature_rows s c name =
+    105 for every_profile ⦂ rule105 s c
+    ∷ 106 for every_profile ⦂ rule106 s c
     ∷ 107 for every_profile ⦂ rule107 s c
     ∷ 108 for every_profile ⦂ rule108 s c name
     ∷ []

@@ -1,4 +1,4 @@
--- Rules 109 to 111 (document 01, "Rules on fields"; document 02, CR 1, CR 2 and CR 4).
+-- Rules 109 to 111 (document 01, "Rules on fields"; document 02, CR 1 and CR 2).
 use Rattle.std.specs.Prelude.{Bool, not, List, [], ◌∷◌, ◌++◌}
 use Rattle.der.specs.declared.header.Head.{Head}
 use Rattle.times.specs.Validity.{early_general, reversed_of, within_days_of, within_years_of}
@@ -25,7 +25,7 @@ abbrev pub within_limit : Validity → Limit → Bool
 within_limit v (Days days) = within_days_of v days
 within_limit v (Years years) = within_years_of v years
 
--- 111 "at most 395 days (S), 45 days (O), of 86,400 seconds"; "111 allows ten years" (CR 1); "three years by the calendar" (CR 4); "111 now compares notAfter minus notBefore plus one second
+-- 111 "at most 395 days (S), 45 days (O), of 86,400 seconds"; "111 allows ten years" (CR 1); "111 now compares notAfter minus notBefore plus one second
 -- with the limit" (CR 2)
 abbrev pub rule111 : Profile → Certificate → List Head
 rule111 p c = broken_at (not (within_limit c.validity (limit_of p))) c.period

@@ -8,4 +8,4 @@ use Rattle.rules_fields.specs.Algorithms.{signature_rows}
 use Rattle.rules_fields.specs.Period.{validity_rows}
 
 unfoldable pub field_rows : Profile → Case → List Row
-field_rows p f = version_rows f.octets f.fields ++ (signature_rows p f.octets f.fields f.issuer.name ++ validity_rows p f.fields)
+field_rows p f = version_rows f.octets f.fields ++ (signature_rows f.octets f.fields f.issuer.name ++ validity_rows p f.fields)

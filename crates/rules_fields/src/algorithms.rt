@@ -2,7 +2,7 @@
 ghost use Rattle.std.specs.Prelude.{◌≡◌};
 ghost use Rattle.der.specs.Order.{octets_of};
 ghost use Rattle.report.specs.Rows.{Puts};
-ghost use Rattle.rules_fields.specs.Algorithms.{is_sha256_rsa, is_ecdsa, is_taken, signature_rows};
+ghost use Rattle.rules_fields.specs.Algorithms.{is_sha256_rsa, signature_rows};
 
 use certificate::Certificate;
 use der::Head;
@@ -18,25 +18,6 @@ fn is_sha256_rsa(s: &[u8], algorithm: Head) -> bool
     )
 }
 
-fn is_ecdsa(s: &[u8], algorithm: Head) -> bool
-    ensures { result ≡ is_ecdsa s.now algorithm }
-{
-    let sha256 = der::contents_are(s, algorithm, b"\x06\x08\x2A\x86\x48\xCE\x3D\x04\x03\x02");
-    let sha384 = der::contents_are(s, algorithm, b"\x06\x08\x2A\x86\x48\xCE\x3D\x04\x03\x03");
-    let sha512 = der::contents_are(s, algorithm, b"\x06\x08\x2A\x86\x48\xCE\x3D\x04\x03\x04");
-    sha256 | (sha384 | sha512)
-}
-
-// Whether the profile's certificates may be signed by this algorithm.
-fn is_taken(p: Profile, s: &[u8], algorithm: Head) -> bool
-    ensures { result ≡ is_taken p s.now algorithm }
-{
-    if is_sha256_rsa(s, algorithm) {
-        return true;
-    }
-    profiles::takes_ecdsa(p) & is_ecdsa(s, algorithm)
-}
-
 // `name` is the issuer's subject, in its octets.
 pub fn algorithms_and_name(
     room: &mut [u8],
@@ -47,10 +28,10 @@ pub fn algorithms_and_name(
     issuer: &[u8],
     name: Head,
 ) -> usize
-    ensures { Puts p (signature_rows p s.now c (octets_of issuer.now name)) n room.old result room.new }
+    ensures { Puts p (signature_rows s.now c (octets_of issuer.now name)) n room.old result room.new }
 {
-    let inner = !is_taken(p, s, c.inner);
-    let outer = !is_taken(p, s, c.outer);
+    let inner = !is_sha256_rsa(s, c.inner);
+    let outer = !is_sha256_rsa(s, c.outer);
     let differ = !der::same_element(s, c.inner, s, c.outer);
     let stranger = !der::same_element(s, c.issuer, issuer, name);
     let a = report::judge(room, n, p, 105, inner, c.inner);

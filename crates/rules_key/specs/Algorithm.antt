@@ -1,10 +1,10 @@
 -- Rules 201 to 203 (document 01, "Rules on fields"; document 02, CR 1): "at the key's algorithm".
 use Rattle.std.specs.Prelude.{Bool, not, ◌&&◌, ◌||◌, List, [], ◌∷◌, ℕ}
+use Rattle.rules_key.specs.Parameters.{is_null, is_curve}
 use Rattle.der.specs.declared.header.Head.{Head}
-use Rattle.profiles.specs.Judged.{S, server_and_responder, machines}
+use Rattle.profiles.specs.Judged.{S, server_and_responder, every_profile}
 use Rattle.profiles.specs.Fields.{takes_curves}
 use Rattle.profiles.specs.declared.fields.Profile.{Profile}
-use Rattle.certificate.specs.Parameters.{is_null, is_curve}
 use Rattle.certificate.specs.declared.key.KeyKind.{KeyKind}
 use Rattle.certificate.specs.declared.key.Key.{Key}
 use Rattle.facts.specs.Kinds.{is_rsa, is_elliptic_curve}
@@ -32,4 +32,4 @@ abbrev pub rule203 : List ℕ → Key → List Head
 rule203 s k = broken_at (lacks_curve s k) k.algorithm
 
 unfoldable pub algorithm_rows : Profile → List ℕ → Key → List Row
-algorithm_rows p s k = 201 for machines ⦂ rule201 p k ∷ 202 for server_and_responder ⦂ rule202 s k ∷ 203 for S ⦂ rule203 s k ∷ []
+algorithm_rows p s k = 201 for every_profile ⦂ rule201 p k ∷ 202 for server_and_responder ⦂ rule202 s k ∷ 203 for S ⦂ rule203 s k ∷ []

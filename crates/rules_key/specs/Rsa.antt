@@ -1,4 +1,4 @@
--- Rules 204 to 207 (document 01, "Rules on fields"), and 208 (document 02, CR 1), which CR 4 has for its profiles too: 204 "at the BIT STRING", "205 to 207 at the INTEGER".
+-- Rules 204 to 207 (document 01, "Rules on fields"), and 208 (document 02, CR 1): 204 "at the BIT STRING", "205 to 207 at the INTEGER".
 use Rattle.std.specs.Prelude.{Bool, not, ◌&&◌, List, [], ◌∷◌, ℕ}
 use Rattle.rules_key.specs.Bits.{modulus_of, exponent_of, rsa_bits}
 use Rattle.octets.specs.Numbers.{number_of}
@@ -8,7 +8,7 @@ use Rattle.numbers.specs.Numbers.{modulus_ok, long_modulus, exponent_ok}
 use Rattle.primes.specs.Primes.{primes_below, free_of}
 use Rattle.certificate.specs.declared.key.Key.{Key}
 use Rattle.facts.specs.Kinds.{is_rsa}
-use Rattle.profiles.specs.Judged.{O, server_and_responder, subordinate_and_badges, every_profile}
+use Rattle.profiles.specs.Judged.{O, server_and_responder, subordinate, every_profile}
 use Rattle.report.specs.Rows.{Row, ◌for◌⦂◌, broken_at}
 
 -- 204 "RSA bits are, with 0 unused, exactly a sound SEQUENCE of two positive INTEGERs"
@@ -55,5 +55,5 @@ rsa_rows s k =
     ∷ 205 for server_and_responder ⦂ rule205 s k
     ∷ 206 for server_and_responder ⦂ rule206 s k
     ∷ 207 for O ⦂ rule207 s k
-    ∷ 208 for subordinate_and_badges ⦂ rule208 s k
+    ∷ 208 for subordinate ⦂ rule208 s k
     ∷ []

@@ -3,6 +3,7 @@ ghost use Rattle.std.specs.Prelude.{◌≡◌};
 ghost use Rattle.report.specs.Rows.{Puts};
 ghost use Rattle.rules_key.specs.Algorithm.{allows_kind, lacks_null, lacks_curve, algorithm_rows};
 
+use crate::parameters::{is_curve, is_null};
 use certificate::{Key, KeyKind};
 use facts::{is_elliptic_curve, is_rsa};
 use profiles::Profile;
@@ -18,7 +19,7 @@ fn lacks_null(s: &[u8], k: Key) -> bool
     ensures { result ≡ lacks_null s.now k }
 {
     let kind = k.kind;
-    is_rsa(kind) & !certificate::is_null(s, k.parameters)
+    is_rsa(kind) & !is_null(s, k.parameters)
 }
 
 // Rule 203 is broken.
@@ -26,7 +27,7 @@ fn lacks_curve(s: &[u8], k: Key) -> bool
     ensures { result ≡ lacks_curve s.now k }
 {
     let kind = k.kind;
-    is_elliptic_curve(kind) & !certificate::is_curve(s, k.parameters)
+    is_elliptic_curve(kind) & !is_curve(s, k.parameters)
 }
 
 pub fn algorithm_rules(room: &mut [u8], n: usize, p: Profile, s: &[u8], k: Key) -> usize

@@ -1,6 +1,7 @@
-// Rules 201 to 208: the key (document 01, "Rules on fields"; document 02, CR 1 and CR 4).
+// Rules 201 to 208: the key (document 01, "Rules on fields"; document 02, CR 1).
 mod algorithm;
 mod bits;
+mod parameters;
 mod rsa;
 
 ghost use Rattle.facts.specs.Case.{case_of};

@@ -1,7 +1,7 @@
 -- Rules 112 to 119 (document 01, "Rules on fields"; document 02, CR 1).
 use Rattle.std.specs.Prelude.{List, [], ◌∷◌, ℕ}
 use Rattle.der.specs.declared.header.Head.{Head}
-use Rattle.profiles.specs.Judged.{subordinate, machines}
+use Rattle.profiles.specs.Judged.{subordinate, every_profile}
 use Rattle.profiles.specs.Fields.{common_name, country, organization, state_or_province, takes_utf8}
 use Rattle.profiles.specs.declared.fields.Profile.{Profile}
 use Rattle.subjects.specs.Texts.{is_other_country, is_other_organization, is_other_state}
@@ -48,10 +48,10 @@ rule119 s name = filter (is_other_state s) (attributes_in s name)
 
 unfoldable pub country_rows : Profile → List ℕ → Head → List Row
 country_rows p s name =
-    112 for machines ⦂ rule112 p s name
-    ∷ 113 for machines ⦂ rule113 s name
-    ∷ 114 for machines ⦂ rule114 s name
-    ∷ 115 for machines ⦂ rule115 s name
+    112 for every_profile ⦂ rule112 p s name
+    ∷ 113 for every_profile ⦂ rule113 s name
+    ∷ 114 for every_profile ⦂ rule114 s name
+    ∷ 115 for every_profile ⦂ rule115 s name
     ∷ []
 
 unfoldable pub organization_rows : Profile → List ℕ → Head → List Row

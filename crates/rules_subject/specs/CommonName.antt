@@ -10,9 +10,10 @@ use Rattle.subjects.specs.Authorities.{is_other_authority}
 use Rattle.subjects.specs.Sets.{is_crowded}
 use Rattle.subjects.specs.Types.{attribute_value}
 use Rattle.hosts.specs.Names.{some_named}
-use Rattle.certificate.specs.Standing.{Standing, where_good}
+use Rattle.certificate.specs.Standing.{Standing}
 use Rattle.forms.specs.Kinds.{has_arc}
 use Rattle.forms.specs.Lists.{attributes_in}
+use Rattle.forms.specs.Values.{where_good}
 use Rattle.report.specs.Forms.{filter}
 use Rattle.report.specs.Rows.{Row, ◌for◌⦂◌, broken_at}
 

@@ -5,15 +5,16 @@ use Rattle.der.specs.Comparing.{contents_are}
 use Rattle.der.specs.Members.{members_in}
 use Rattle.der.specs.Tags.{boolean_tag, integer_tag}
 use Rattle.der.specs.declared.header.Head.{Head}
-use Rattle.certificate.specs.Standing.{Standing, where_good}
+use Rattle.certificate.specs.Standing.{Standing}
 use Rattle.usages.specs.Usage.{usage_of, signs_for_authority}
 use Rattle.locations.specs.Uris.{is_other_uri}
 use Rattle.locations.specs.Access.{not_http_by}
 use Rattle.locations.specs.declared.access.Method.TheVariants.{Ocsp}
-use Rattle.forms.specs.Lists.{full_names_in}
+use Rattle.forms.specs.Values.{where_good}
 use Rattle.profiles.specs.Judged.{subordinate}
 use Rattle.report.specs.Forms.{filter}
 use Rattle.report.specs.Rows.{Row, ◌for◌⦂◌, broken_at}
+use Rattle.rules_values.specs.Points.{full_names_in}
 
 -- BasicConstraints ::= SEQUENCE { cA BOOLEAN DEFAULT FALSE, pathLenConstraint INTEGER (0..MAX) OPTIONAL } (RFC 5280, 4.2.1.9)
 

@@ -1,7 +1,8 @@
 -- Rules 412 to 414 (document 01, "Rules on extensions"; document 02, CR 1). Slot 7 is the subject alternative name.
 use Rattle.std.specs.Prelude.{List, [], ◌∷◌, ℕ}
 use Rattle.der.specs.declared.header.Head.{Head}
-use Rattle.certificate.specs.Standing.{Standing, where_good}
+use Rattle.certificate.specs.Standing.{Standing}
+use Rattle.forms.specs.Values.{where_good}
 use Rattle.der.specs.Members.{members_in}
 use Rattle.hosts.specs.Hosts.{has_underscore, no_host}
 use Rattle.forms.specs.Kinds.{is_no_dns_name}

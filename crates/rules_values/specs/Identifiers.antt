@@ -6,8 +6,9 @@ use Rattle.der.specs.Members.{first_in}
 use Rattle.der.specs.Tags.{context_tag}
 use Rattle.der.specs.declared.header.Head.{Head}
 use Rattle.certificate.specs.Issuer.{KeyIdentifier}
-use Rattle.certificate.specs.Standing.{Standing, where_good}
-use Rattle.profiles.specs.Judged.{S, machines, every_profile}
+use Rattle.certificate.specs.Standing.{Standing}
+use Rattle.forms.specs.Values.{where_good}
+use Rattle.profiles.specs.Judged.{S, every_profile}
 use Rattle.report.specs.Rows.{Row, ◌for◌⦂◌, broken_at}
 
 -- AuthorityKeyIdentifier ::= SEQUENCE { keyIdentifier [0] KeyIdentifier OPTIONAL, .. }: the first member, if its tag is [0]
@@ -45,5 +46,5 @@ unfoldable pub key_identifier_rows : List ℕ → KeyIdentifier → Standing →
 key_identifier_rows s key authority constraints subject =
     401 for every_profile ⦂ rule401 s key authority
     ∷ 402 for S ⦂ rule402 constraints
-    ∷ 403 for machines ⦂ rule403 subject
+    ∷ 403 for every_profile ⦂ rule403 subject
     ∷ []

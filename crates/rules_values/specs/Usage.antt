@@ -1,7 +1,8 @@
 -- Rules 404 and 405 (document 01, "Rules on extensions"; document 02, CR 1). Slot 4 is key usage.
 use Rattle.std.specs.Prelude.{not, List, [], ◌∷◌, ℕ}
 use Rattle.der.specs.declared.header.Head.{Head}
-use Rattle.certificate.specs.Standing.{Standing, where_good}
+use Rattle.certificate.specs.Standing.{Standing}
+use Rattle.forms.specs.Values.{where_good}
 use Rattle.profiles.specs.Judged.{server_and_responder}
 use Rattle.profiles.specs.Values.{digital_signature, usage_with_rsa, usage_with_curve}
 use Rattle.profiles.specs.declared.fields.Profile.{Profile}

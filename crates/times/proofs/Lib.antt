@@ -1,3 +1,2 @@
--- Laws of the definitions, which the layers above cite, and worked examples.
+-- Laws of the definitions, which the layers above cite.
 pub mod Laws
-pub mod Examples

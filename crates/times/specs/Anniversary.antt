@@ -1,11 +1,11 @@
--- "ten years: same month, day and time ten years on, 28 February for a start on 29 February" (document 02, CR 1); "three years by the calendar" (CR 4).
+-- "ten years: same month, day and time ten years on, 28 February for a start on 29 February" (document 02, CR 1).
 use Rattle.std.specs.Prelude.{Bool, cond, ◌&&◌, ℕ, ◌+◌, eqb}
 use Rattle.times.specs.declared.calendar.Date.{Date}
 
 abbrev pub is_leap_day : Date → Bool
 is_leap_day d = eqb d.month 2 && eqb d.day 29
 
--- "28 February for a start on 29 February", whatever year the anniversary falls in: neither the tenth nor the third after a leap year is ever one
+-- "28 February for a start on 29 February", whatever year the anniversary falls in: the tenth after a leap year is never one
 abbrev pub yearly_day : Date → ℕ
 yearly_day d = cond (is_leap_day d) 28 d.day
 

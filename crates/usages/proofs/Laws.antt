@@ -1,3 +1,2 @@
 -- Laws of the definitions, by file.
 pub mod Usage
-pub mod Alone

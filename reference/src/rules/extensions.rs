@@ -4,7 +4,7 @@ use super::Case;
 use crate::certificate::Extension;
 use crate::der::Element;
 use crate::object_identifiers::PRIVATE_KEY_USAGE_PERIOD;
-use crate::profile::{look_up, standings, Criticality, Standing, ROWS};
+use crate::profile::{look_up, standings, Standing, ROWS};
 use crate::report::Report;
 use crate::structure::Misfit;
 use crate::values::{
@@ -48,7 +48,7 @@ pub fn judge<'a>(case: Case<'_, 'a>, report: &mut Report) -> Values<'a> {
     extensions.rules_341_to_351(report)
 }
 
-/// The extensions that the table's rows want or allow.
+/// The extensions that the table's rows want or allow: "An extension marked "no" or "other" gets neither."
 #[derive(Default)]
 struct Extensions<'a> {
     by_row: [Option<Extension<'a>>; ROWS],
@@ -58,7 +58,7 @@ impl<'a> Extensions<'a> {
     /// Puts an extension into its row, or judges it as one that has none.
     fn sort_in(&mut self, case: Case, extension: &Extension<'a>, report: &mut Report) {
         match look_up(extension.identifier, case.profile) {
-            Some((s, standing)) if standing.is_listed() => {
+            Some((s, Standing::Mandatory | Standing::MandatoryCritical | Standing::Optional)) => {
                 if let Some(place) = self.by_row.get_mut(s - 1) {
                     *place = Some(*extension);
                 }
@@ -109,17 +109,20 @@ impl<'a> Extensions<'a> {
 
 /// "300+s an M missing (at the extension list, or TBS)."
 fn rules_301_to_311(case: Case, s: usize, standing: Standing, report: &mut Report) {
-    let place = case.certificate.place_of_the_missing();
-    report.require(300 + s as u16, !standing.is_mandatory(), place);
+    let place = match &case.certificate.extension_list {
+        Some(list) => list.element,
+        None => case.certificate.to_be_signed,
+    };
+    match standing {
+        Standing::Mandatory | Standing::MandatoryCritical => report.add(300 + s as u16, place),
+        Standing::Optional | Standing::No | Standing::Other | Standing::NotInTable => (),
+    }
 }
 
-/// "320+s critical where the table has no "crit", or the reverse." In 5 to 8 "no other is judged".
+/// "320+s critical where the table has no "crit", or the reverse."
 fn rules_321_to_331(s: usize, standing: Standing, extension: &Extension, report: &mut Report) {
-    let is_kept = match standing.criticality() {
-        Criticality::MustBe => extension.is_critical,
-        Criticality::MustNotBe => !extension.is_critical,
-        Criticality::NotJudged => true,
-    };
+    let must_be_critical = standing == Standing::MandatoryCritical;
+    let is_kept = extension.is_critical == must_be_critical;
     report.require(320 + s as u16, is_kept, extension.element);
 }
 

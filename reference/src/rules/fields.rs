@@ -3,9 +3,7 @@
 use super::Case;
 use crate::certificate::Algorithm;
 use crate::number::is_positive;
-use crate::object_identifiers::{
-    ECDSA_WITH_SHA256, ECDSA_WITH_SHA384, ECDSA_WITH_SHA512, SHA256_WITH_RSA_ENCRYPTION,
-};
+use crate::object_identifiers::SHA256_WITH_RSA_ENCRYPTION;
 use crate::profile::Profile;
 use crate::report::Report;
 use crate::time::{days, Date, Time};
@@ -43,23 +41,15 @@ fn rules_102_to_104(case: Case, report: &mut Report) {
 fn rules_105_to_107(case: Case, report: &mut Report) {
     let inner = case.certificate.inner_algorithm;
     let outer = case.certificate.outer_algorithm;
-    report.require(105, is_allowed(case.profile, inner), inner.element);
-    report.require(106, is_allowed(case.profile, outer), outer.element);
+    // "105 inner, 106 outer algorithm is 1.2.840.113549.1.1.11 with NULL."
+    let is_wanted = |algorithm: Algorithm| {
+        algorithm.identifier == SHA256_WITH_RSA_ENCRYPTION && algorithm.has_null_parameters()
+    };
+    report.require(105, is_wanted(inner), inner.element);
+    report.require(106, is_wanted(outer), outer.element);
     // "107 the two equal as octets (at outer)."
     let are_equal = inner.element.whole() == outer.element.whole();
     report.require(107, are_equal, outer.element);
-}
-
-/// "105 inner, 106 outer algorithm is 1.2.840.113549.1.1.11 with NULL." In 5 to 8 "105 and 106 also take the three ECDSA
-/// identifiers listed there, with no parameters (RFC 5758)".
-fn is_allowed(profile: Profile, algorithm: Algorithm) -> bool {
-    match algorithm.identifier {
-        SHA256_WITH_RSA_ENCRYPTION => algorithm.has_null_parameters(),
-        ECDSA_WITH_SHA256 | ECDSA_WITH_SHA384 | ECDSA_WITH_SHA512 => {
-            profile.is_card() && algorithm.parameters.is_none()
-        }
-        _ => false,
-    }
 }
 
 /// "108 issuer name equals the issuer's subject, octet by octet."
@@ -94,16 +84,13 @@ fn rules_110_and_111(case: Case, report: &mut Report) {
 
 /// So many seconds a validity that starts then may have: "at most 395 days (S), 45 days (O), of 86,400 seconds"; in
 /// profile 4 "ten years: same month, day and time ten years on, 28 February for a start on 29 February", so that "the
-/// last permitted second is the one before the tenth anniversary"; in 5 to 8 "three years by the calendar, counted as in
-/// CR 2".
+/// last permitted second is the one before the tenth anniversary".
 fn limit(profile: Profile, not_before: Date) -> i64 {
-    let years = |count| not_before.anniversary(count).seconds() - not_before.seconds();
     match profile {
         Profile::DomainServer | Profile::OrganizationServer => days(395),
         Profile::Responder => days(45),
-        Profile::SubordinateAuthority => years(10),
-        Profile::Signature | Profile::Piv | Profile::PivInteroperable | Profile::DerivedPiv => {
-            years(3)
+        Profile::SubordinateAuthority => {
+            not_before.anniversary(10).seconds() - not_before.seconds()
         }
     }
 }

@@ -1,4 +1,4 @@
-//! Rules 201 to 208, and 501: the public key.
+//! Rules 201 to 208: the public key.
 
 use super::Case;
 use crate::certificate::PublicKey;
@@ -30,11 +30,10 @@ pub fn kind_of(key: &PublicKey) -> KeyKind {
     }
 }
 
-/// "(201 to 203 at the key's algorithm.)" So is 501.
+/// "(201 to 203 at the key's algorithm.)"
 pub fn judge(case: Case, report: &mut Report) {
     let key = &case.certificate.key;
     rule_201(case, key, report);
-    rule_501(case, key, report);
     match kind_of(key) {
         KeyKind::Rsa => {
             rule_202(case, key, report);
@@ -47,35 +46,12 @@ pub fn judge(case: Case, report: &mut Report) {
 
 /// "201 key is rsaEncryption, or (S) ecPublicKey." In profile 4 "201 RSA only".
 fn rule_201(case: Case, key: &PublicKey, report: &mut Report) {
-    if !case.profile.has_rule(201) {
-        return;
-    }
     let is_allowed = match kind_of(key) {
         KeyKind::Rsa => true,
         KeyKind::EllipticCurve => case.profile.is_server(),
         KeyKind::Another => false,
     };
     report.require(201, is_allowed, key.algorithm.element);
-}
-
-/// "RSA by 204 and 208, or EC on P-256 or P-384". Parameters of an RSA key are free.
-fn rule_501(case: Case, key: &PublicKey, report: &mut Report) {
-    if !case.profile.has_rule(501) {
-        return;
-    }
-    let is_allowed = match kind_of(key) {
-        KeyKind::Rsa => true,
-        KeyKind::EllipticCurve => is_on(key, &[CURVE_P256, CURVE_P384]),
-        KeyKind::Another => false,
-    };
-    report.require(501, is_allowed, key.algorithm.element);
-}
-
-/// Whether a key's parameters are the identifier of one of these curves.
-fn is_on(key: &PublicKey, curves: &[&[u8]]) -> bool {
-    key.algorithm.parameters.is_some_and(|parameters| {
-        parameters.identifier() == OBJECT_IDENTIFIER && curves.contains(&parameters.contents())
-    })
 }
 
 /// "202 RSA key: parameters NULL."
@@ -88,15 +64,20 @@ fn rule_202(case: Case, key: &PublicKey, report: &mut Report) {
 
 /// "203 (S) EC key: parameters one of the curves in 000."
 fn rule_203(case: Case, key: &PublicKey, report: &mut Report) {
-    if case.profile.has_rule(203) {
-        let is_kept = is_on(key, &[CURVE_P256, CURVE_P384, CURVE_P521]);
-        report.require(203, is_kept, key.algorithm.element);
+    const CURVES: [&[u8]; 3] = [CURVE_P256, CURVE_P384, CURVE_P521];
+    if !case.profile.has_rule(203) {
+        return;
     }
+    let algorithm = key.algorithm;
+    let is_curve = algorithm.parameters.is_some_and(|parameters| {
+        parameters.identifier() == OBJECT_IDENTIFIER && CURVES.contains(&parameters.contents())
+    });
+    report.require(203, is_curve, algorithm.element);
 }
 
 /// "204 RSA bits are, with 0 unused, exactly a sound SEQUENCE of two positive INTEGERs (at the BIT STRING); else 205 to
 /// 207 are not judged." "(205 to 207 at the INTEGER.)" In profile 4 "204, and new 208, modulus at least 2048 bits, else as
-/// 205"; in 5 to 8 "RSA by 204 and 208".
+/// 205".
 fn rules_204_to_208(case: Case, key: &PublicKey, report: &mut Report) {
     let Some(numbers) = RsaNumbers::read(key.bits) else {
         report.add(204, key.bits);

@@ -3,8 +3,6 @@
 //! ""Each" gives one entry an item, without a verb an offending one; "one X" gives an entry at the subject name if
 //! none, and at each further X. The place is the field or attribute judged, unless another is given."
 
-mod card_names;
-mod cards;
 mod extensions;
 mod fields;
 mod host_name;
@@ -46,6 +44,5 @@ pub fn findings(certificate: &Certificate, issuer: &Issuer, profile: Profile) ->
     let values = extensions::judge(case, &mut report);
     subject::judge(case, &values, &mut report);
     values::judge(case, &values, &mut report);
-    cards::judge(case, &values, &mut report);
     report.into_entries()
 }

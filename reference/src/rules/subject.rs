@@ -11,10 +11,6 @@ use crate::profile::Profile;
 use crate::report::Report;
 
 pub fn judge(case: Case, values: &Values, report: &mut Report) {
-    // In 5 to 8 "112 to 121 do not" hold.
-    if case.profile.is_card() {
-        return;
-    }
     let subject = Subject {
         name: case.certificate.subject,
         attributes: attributes(case.certificate.subject).collect(),
@@ -60,7 +56,6 @@ fn rule_112(case: Case, subject: &Subject, report: &mut Report) {
         Profile::OrganizationServer => &[COMMON_NAME, COUNTRY, ORGANIZATION, STATE_OR_PROVINCE],
         Profile::Responder => &[COMMON_NAME, COUNTRY, ORGANIZATION, ORGANIZATIONAL_UNIT],
         Profile::SubordinateAuthority => &[COMMON_NAME, COUNTRY, ORGANIZATION],
-        _ => return,
     };
     for attribute in &subject.attributes {
         report.require(

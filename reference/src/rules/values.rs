@@ -27,7 +27,7 @@ pub fn judge(case: Case, values: &Values, report: &mut Report) {
         rules_402_and_421(case, value, report);
     }
     if let Some(value) = &values.subject_key_identifier {
-        rule_403(case, value, report);
+        rule_403(value, report);
     }
     if let Some(value) = &values.key_usage {
         rules_404_and_405(case, value, report);
@@ -47,7 +47,7 @@ pub fn judge(case: Case, values: &Values, report: &mut Report) {
         rule_423(case, value, report);
     }
     if let Some(value) = &values.crl_distribution_points {
-        rules_418_and_419(case, value, report);
+        rules_418_and_419(value, report);
         rule_424(case, value, report);
     }
 }
@@ -75,23 +75,20 @@ fn rules_402_and_421(case: Case, constraints: &Value<BasicConstraints>, report: 
 }
 
 /// "403 subject key id 20 octets."
-fn rule_403(case: Case, subject_key: &Value<SubjectKeyIdentifier>, report: &mut Report) {
-    if case.profile.has_rule(403) {
-        let is_kept = subject_key.value.octets.len() == 20;
-        report.require(403, is_kept, subject_key.octet_string);
-    }
+fn rule_403(subject_key: &Value<SubjectKeyIdentifier>, report: &mut Report) {
+    let is_kept = subject_key.value.octets.len() == 20;
+    report.require(403, is_kept, subject_key.octet_string);
 }
 
 /// Bits of a key usage, in its first octet.
-pub const DIGITAL_SIGNATURE: u8 = 0x80;
-pub const NON_REPUDIATION: u8 = 0x40;
+const DIGITAL_SIGNATURE: u8 = 0x80;
 const KEY_ENCIPHERMENT: u8 = 0x20;
 const KEY_AGREEMENT: u8 = 0x08;
 const KEY_CERTIFICATE_SIGN: u8 = 0x04;
 const CRL_SIGN: u8 = 0x02;
 
 /// The first octet of a key usage's bits, and the later ones.
-pub fn octets_of<'a>(usage: &KeyUsage<'a>) -> (u8, &'a [u8]) {
+fn octets_of<'a>(usage: &KeyUsage<'a>) -> (u8, &'a [u8]) {
     match usage.bits {
         [first, later @ ..] => (*first, later),
         [] => (0, &[]),
@@ -133,8 +130,6 @@ fn rules_407_and_408(case: Case, usage: &Value<ExtendedKeyUsage>, report: &mut R
             SERVER_AUTHENTICATION
         }
         Profile::Responder => OCSP_SIGNING,
-        // "purposes are not judged otherwise"
-        _ => return,
     };
     let is_present = usage
         .value
@@ -154,18 +149,16 @@ fn rules_407_and_408(case: Case, usage: &Value<ExtendedKeyUsage>, report: &mut R
 fn rules_409_to_411(case: Case, policies: &Value<CertificatePolicies>, report: &mut Report) {
     let identifiers = &policies.value.identifiers;
     // "409 a policy below 2.16.840.1.101.3.2.1.3 (arc from 003)."
-    if case.profile.has_rule(409) {
-        let has_federal = identifiers
-            .iter()
-            .any(|policy| is_below_federal_arc(policy));
-        report.require(409, has_federal, policies.octet_string);
-    }
+    let has_federal = identifiers
+        .iter()
+        .any(|policy| is_below_federal_arc(policy));
+    report.require(409, has_federal, policies.octet_string);
     // "410 2.23.140.1.2.1 (1) or 2.23.140.1.2.2 (2), from the CA/Browser Forum." In profile 4 "410 (either forum policy)".
     let wanted: &[&[u8]] = match case.profile {
         Profile::DomainServer => &[DOMAIN_VALIDATED],
         Profile::OrganizationServer => &[ORGANIZATION_VALIDATED],
         Profile::SubordinateAuthority => &[DOMAIN_VALIDATED, ORGANIZATION_VALIDATED],
-        _ => &[],
+        Profile::Responder => &[],
     };
     if case.profile.has_rule(410) {
         let has_wanted = identifiers.iter().any(|policy| wanted.contains(policy));
@@ -219,9 +212,7 @@ fn rules_415_to_417(case: Case, access: &Value<AuthorityInformationAccess>, repo
         report.require(415, has_uri(OCSP_ACCESS), access.octet_string);
     }
     // "416 a caIssuers entry with a URI."
-    if case.profile.has_rule(416) {
-        report.require(416, has_uri(CA_ISSUERS_ACCESS), access.octet_string);
-    }
+    report.require(416, has_uri(CA_ISSUERS_ACCESS), access.octet_string);
     // "417 S: each caIssuers entry not an HTTP URI ("http://" in any case, then something)."
     if case.profile.has_rule(417) {
         require_http(417, CA_ISSUERS_ACCESS, access, report);
@@ -248,11 +239,10 @@ fn require_http(
     }
 }
 
-fn rules_418_and_419(case: Case, points: &Value<DistributionPoints>, report: &mut Report) {
+fn rules_418_and_419(points: &Value<DistributionPoints>, report: &mut Report) {
     // "418 an HTTP URI in some full name."
-    if case.profile.has_rule(418) {
-        report.require(418, points.value.has_http_uri(), points.octet_string);
-    }
+    let has_http_uri = points.value.full_names().any(|name| name.is_http_uri());
+    report.require(418, has_http_uri, points.octet_string);
     // "419 each point with reasons or cRLIssuer."
     for point in &points.value.points {
         let is_kept = !point.has_reasons && !point.has_crl_issuer;

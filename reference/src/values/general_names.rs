@@ -27,7 +27,7 @@ impl<'a> GeneralName<'a> {
     /// iPAddress [7] OCTET STRING, registeredID [8] OBJECT IDENTIFIER }
     pub fn read(element: Element<'a>) -> Result<GeneralName<'a>, Misfit> {
         match element.identifier() {
-            OTHER_NAME => OtherName::read(element).map(|_| ())?,
+            OTHER_NAME => check_other_name(element)?,
             DIRECTORY_NAME => check_directory_name(element)?,
             REGISTERED_ID if !is_object_identifier(element.contents()) => {
                 return Err(Misfit::at(element));
@@ -54,20 +54,6 @@ impl<'a> GeneralName<'a> {
         self.element.identifier() == UNIFORM_RESOURCE_IDENTIFIER
     }
 
-    /// The octets of a uniformResourceIdentifier; None of another form.
-    pub fn uri(&self) -> Option<&'a [u8]> {
-        self.is_uri().then(|| self.element.contents())
-    }
-
-    /// An otherName's parts; None of another form.
-    pub fn other_name(&self) -> Option<OtherName<'a>> {
-        if self.element.identifier() == OTHER_NAME {
-            OtherName::read(self.element).ok()
-        } else {
-            None
-        }
-    }
-
     /// "an HTTP URI ("http://" in any case, then something)"
     pub fn is_http_uri(&self) -> bool {
         const SCHEME: &[u8] = b"http://";
@@ -80,29 +66,14 @@ impl<'a> GeneralName<'a> {
     }
 }
 
-/// The parts of an otherName.
-#[derive(Clone, Copy, Debug)]
-pub struct OtherName<'a> {
-    /// The contents of the OBJECT IDENTIFIER.
-    pub type_identifier: &'a [u8],
-    /// What stands under the [0].
-    pub value: Element<'a>,
-}
-
-impl<'a> OtherName<'a> {
-    /// OtherName ::= SEQUENCE { type-id OBJECT IDENTIFIER, value [0] EXPLICIT ANY }
-    fn read(element: Element<'a>) -> Result<OtherName<'a>, Misfit> {
-        let mut members = Members::of(element);
-        let type_identifier = members.required(OBJECT_IDENTIFIER)?.contents();
-        let mut tagged = Members::of(members.required(constructed(0))?);
-        let value = tagged.any()?;
-        tagged.end()?;
-        members.end()?;
-        Ok(OtherName {
-            type_identifier,
-            value,
-        })
-    }
+/// OtherName ::= SEQUENCE { type-id OBJECT IDENTIFIER, value [0] EXPLICIT ANY }
+fn check_other_name(element: Element) -> Result<(), Misfit> {
+    let mut members = Members::of(element);
+    members.required(OBJECT_IDENTIFIER)?;
+    let mut tagged = Members::of(members.required(constructed(0))?);
+    tagged.any()?;
+    tagged.end()?;
+    members.end()
 }
 
 /// directoryName [4] Name: explicit, since Name is a CHOICE.

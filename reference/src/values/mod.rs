@@ -13,7 +13,7 @@ mod points;
 mod policies;
 
 pub use access::{AccessDescription, AuthorityInformationAccess};
-pub use general_names::{GeneralName, GeneralNames, OtherName};
+pub use general_names::{GeneralName, GeneralNames};
 pub use key_values::{
     AuthorityKeyIdentifier, BasicConstraints, ExtendedKeyUsage, KeyUsage, NoCheck,
     SubjectKeyIdentifier,

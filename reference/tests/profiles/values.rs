@@ -4,18 +4,18 @@ use super::*;
 
 #[test]
 fn extension_table() {
-    for profile in 1..=8 {
+    for profile in 1..=4 {
         let draft = good(profile);
         for position in 0..draft.extensions.len() {
             let mut draft = draft.clone();
             let removed = draft.extensions.remove(position);
             let entries = report(&draft.encoded(), profile);
             let is_alternative_name = removed[4..7] == [0x55, 0x1D, 0x11];
-            let is_optional = (3..=5).contains(&profile) && is_alternative_name;
+            let is_optional = profile >= 3 && is_alternative_name;
             assert_eq!(entries.len(), usize::from(!is_optional));
             assert!(entries
                 .iter()
-                .all(|entry| matches!(entry.rule, 301..=311 | 509)));
+                .all(|entry| (301..=311).contains(&entry.rule)));
         }
     }
     let unknown = extension("1.2.3", true, &[]);

@@ -1,11 +1,11 @@
-//! Faults of extensions as such, rules 301 to 363 and 509 to 511: missing, wrongly critical, of a bad value,
+//! Faults of extensions as such, rules 301 to 363: missing, wrongly critical, of a bad value,
 //! repeated, not allowed.
 
 use super::Aspect::*;
 use super::Catalogue;
 use crate::bad_values::bad_values;
 use crate::certificate::Extension as CertificateExtension;
-use crate::correct::{interim_indicator, plain_value, set_extension, Pair};
+use crate::correct::{plain_value, set_extension, Pair};
 use crate::element::{Element, Mark, Part};
 use crate::object_identifiers as oid;
 use crate::profile::*;
@@ -19,16 +19,12 @@ pub(super) fn add(faults: &mut Catalogue) {
     add_others_at_responders(faults);
     add_others_at_servers(faults);
     add_repeats_at_authorities(faults);
-    add_indicators_elsewhere(faults);
-    add_indicators(faults);
-    add_critical_purposes(faults);
 }
 
 fn add_for_slot(faults: &mut Catalogue, slot: u8) {
     let number = u16::from(slot);
     let mandatory = &profiles_where(slot, Standing::is_mandatory);
     let judged = &profiles_where(slot, Standing::is_judged);
-    let by_their_mark = &profiles_where(slot, Standing::is_judged_by_its_mark);
     let both = [Extension(slot), Critical(slot)];
     let name = |what: &str| format!("extension {slot} {what}");
     faults.of_slot(slot, &both).add(&name("missing"), &[300 + number], mandatory, |pair, _, slot| {
@@ -36,7 +32,7 @@ fn add_for_slot(faults: &mut Catalogue, slot: u8) {
         pair.certificate.list_marks.push(Mark::Breaks(300 + u16::from(slot)));
     });
     let mut of_criticality = faults.of_slot(slot, &both[1..]);
-    of_criticality.add(&name("wrongly critical"), &[320 + number], by_their_mark, |pair, _, slot| {
+    of_criticality.add(&name("wrongly critical"), &[320 + number], judged, |pair, _, slot| {
         ensure(pair, slot);
         let critical = !standing(slot, pair.profile).is_critical();
         let extension = pair.extension(slot);
@@ -182,107 +178,12 @@ fn free_name_constraints(critical: bool, random: &mut Random) -> CertificateExte
 fn add_repeats_at_authorities(faults: &mut Catalogue) {
     let mut faults = faults.touching(&[OtherExtensions]);
     faults.add("an extension outside the table repeated", &[361], AUTHORITY, |pair, random, _| {
-        let identifier =
-            random.choose(&[oid::private_extension, oid::ocsp_nocheck, oid::interim_indicator])();
-        push_twice(pair, identifier, random);
+        let identifier = random.choose(&[oid::private_extension, oid::ocsp_nocheck])();
+        pair.certificate.remove_extension(&identifier);
+        let [first, second] = [(); 2].map(|()| random.once_in(2));
+        pair.certificate.extensions.push(other_extension(identifier.clone(), first));
+        pair.certificate.extensions.push(other_extension(identifier, second).breaking(361));
     });
-    faults.add("another extension repeated", &[361], CARD, |pair, random, _| {
-        let others =
-            [oid::private_extension, oid::basic_constraints, oid::ocsp_nocheck, oid::name_constraints];
-        push_twice(pair, random.choose(&others)(), random);
-    });
-}
-
-/// Two extensions of one identifier, each critical or not.
-fn push_twice(pair: &mut Pair, identifier: Vec<u8>, random: &mut Random) {
-    pair.certificate.remove_extension(&identifier);
-    let [first, second] = [(); 2].map(|()| random.once_in(2));
-    pair.certificate.extensions.push(other_extension(identifier.clone(), first));
-    pair.certificate.extensions.push(other_extension(identifier, second).breaking(361));
-}
-
-/// In 1 to 3 the interim indicator is an extension that is not in the table.
-fn add_indicators_elsewhere(faults: &mut Catalogue) {
-    let mut faults = faults.touching(&[OtherExtensions]);
-    faults.add("the interim indicator at a responder", &[362], RESPONDER, |pair, random, _| {
-        let indicator = CertificateExtension { critical: random.once_in(2), ..interim_indicator() };
-        insert_anywhere(pair, indicator.breaking(362), random);
-    });
-    faults.add("a critical interim indicator at a server", &[363], SERVER, |pair, random, _| {
-        pair.certificate.remove_extension(&oid::interim_indicator());
-        let indicator = CertificateExtension { critical: true, ..interim_indicator() };
-        insert_anywhere(pair, indicator.breaking(363), random);
-    });
-}
-
-fn add_indicators(faults: &mut Catalogue) {
-    let mut faults = faults.touching(&[Indicator]);
-    faults.add("no interim indicator", &[509], WITH_INDICATOR, |pair, _, _| {
-        pair.certificate.remove_extension(&oid::interim_indicator());
-        pair.certificate.list_marks.push(Mark::Breaks(509));
-    });
-    faults.add("an interim indicator that is no BOOLEAN", &[510], WITH_INDICATOR, |pair, random, _| {
-        let octets = *random.choose(&NO_BOOLEANS);
-        let indicator = pair.certificate.extension(&oid::interim_indicator());
-        indicator.value = vec![Part::Octets(octets.to_vec())];
-        indicator.breaks_at_value(510);
-    });
-    faults.add("the interim indicator repeated", &[361], WITH_INDICATOR, |pair, random, _| {
-        for _ in 0..random.between(1, 3) {
-            let mut later = pair.certificate.extension(&oid::interim_indicator()).clone();
-            spoil_repeat(&mut later, random);
-            pair.certificate.extensions.push(later.breaking(361));
-        }
-    });
-    faults.add("the interim indicator repeated", &[361], WITHOUT_INDICATOR, |pair, random, _| {
-        push_twice(pair, oid::interim_indicator(), random);
-    });
-}
-
-/// Values of the interim indicator that are not exactly one sound BOOLEAN.
-pub const NO_BOOLEANS: [&[u8]; 17] = [
-    &[],
-    &[0x01],
-    &[0x01, 0x00],
-    &[0x01, 0x01],
-    &[0x01, 0x01, 0x01],
-    &[0x01, 0x01, 0xFE],
-    &[0x01, 0x02, 0xFF, 0xFF],
-    &[0x01, 0x81, 0x01, 0xFF],
-    &[0x01, 0x01, 0xFF, 0x01, 0x01, 0xFF],
-    &[0x01, 0x01, 0x00, 0x00],
-    &[0x21, 0x03, 0x01, 0x01, 0xFF],
-    &[0x80, 0x01, 0xFF],
-    &[0xA0, 0x03, 0x01, 0x01, 0xFF],
-    &[0x30, 0x03, 0x01, 0x01, 0xFF],
-    &[0x04, 0x01, 0xFF],
-    &[0x05, 0x00],
-    &[0xFF],
-];
-
-/// A critical list of purposes, whatever it holds.
-fn add_critical_purposes(faults: &mut Catalogue) {
-    let mut faults = faults.of_slot(5, &[Extension(5), Critical(5)]);
-    faults.add("critical purposes", &[511], CARD, |pair, _, slot| {
-        ensure(pair, slot);
-        make_critical(pair.extension(slot));
-    });
-    faults.add("critical purposes of a bad value", &[345, 511], CARD, |pair, random, slot| {
-        ensure(pair, slot);
-        let mut values = bad_values(slot);
-        pair.extension(slot).value = values.swap_remove(random.below(values.len())).parts;
-        pair.extension(slot).breaks_at_value(345);
-        make_critical(pair.extension(slot));
-    });
-    faults.add("critical purposes before others", &[361, 511], CARD, |pair, random, slot| {
-        push_repeats(pair, slot, 1, random);
-        make_critical(pair.extension(slot));
-    });
-}
-
-fn make_critical(purposes: &mut CertificateExtension) {
-    purposes.critical = true;
-    purposes.breaks_at_extension(511);
 }
 
 fn insert_anywhere(pair: &mut Pair, extension: CertificateExtension, random: &mut Random) {

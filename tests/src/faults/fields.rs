@@ -10,7 +10,6 @@ use crate::general_names::dns;
 use crate::object_identifiers as oid;
 use crate::profile::*;
 use crate::random::Random;
-use crate::variations::cards::{ensure_uuid, good_signatures};
 use crate::variations::{any_moment, positive_contents};
 
 pub(super) fn add(faults: &mut Catalogue) {
@@ -19,8 +18,7 @@ pub(super) fn add(faults: &mut Catalogue) {
     add_algorithms(faults);
     add_issuer_name(faults);
     add_times(faults);
-    add_years(faults);
-    add_two_algorithms(faults);
+    add_ten_years(faults);
     add_subject_attributes(faults);
     add_count_of_common_names(faults);
     add_common_name(faults);
@@ -44,13 +42,13 @@ fn add_version(faults: &mut Catalogue) {
 
 fn add_serial(faults: &mut Catalogue) {
     let mut faults = faults.touching(&[Serial]);
-    faults.add("serial of zero", &[102], ALL_BUT_RESPONDER, |pair, _, _| {
+    faults.add("serial of zero", &[102], SERVER_AND_AUTHORITY, |pair, _, _| {
         pair.certificate.serial = Element::integer(&[0]).breaking(102);
     });
     faults.add("serial of zero, too short as well", &[102, 104], RESPONDER, |pair, _, _| {
         pair.certificate.serial = Element::integer(&[0]).breaking(102).breaking(104);
     });
-    faults.add("serial of 80 hex", &[102], ALL_BUT_RESPONDER, |pair, _, _| {
+    faults.add("serial of 80 hex", &[102], SERVER_AND_AUTHORITY, |pair, _, _| {
         pair.certificate.serial = Element::integer(&[0x80]).breaking(102);
     });
     faults.add("negative serial", &[102], ALL, |pair, random, _| {
@@ -83,14 +81,14 @@ fn negative_contents(length: usize, random: &mut Random) -> Vec<u8> {
 fn add_algorithms(faults: &mut Catalogue) {
     let mut faults = faults.touching(&[Algorithms]);
     faults.add("inner algorithm wrong", &[105, 107], ALL, |pair, random, _| {
-        pair.certificate.inner_algorithm = wrong_algorithm(pair.profile, random).breaking(105);
+        pair.certificate.inner_algorithm = wrong_algorithm(random).breaking(105);
         pair.certificate.outer_algorithm.marks.push(Mark::Breaks(107));
     });
     faults.add("outer algorithm wrong", &[106, 107], ALL, |pair, random, _| {
-        pair.certificate.outer_algorithm = wrong_algorithm(pair.profile, random).breaking(106).breaking(107);
+        pair.certificate.outer_algorithm = wrong_algorithm(random).breaking(106).breaking(107);
     });
     faults.add("both algorithms wrong and equal", &[105, 106], ALL, |pair, random, _| {
-        let wrong = wrong_algorithm(pair.profile, random);
+        let wrong = wrong_algorithm(random);
         pair.certificate.inner_algorithm = wrong.clone().breaking(105);
         pair.certificate.outer_algorithm = wrong.breaking(106);
     });
@@ -102,47 +100,14 @@ fn add_algorithms(faults: &mut Catalogue) {
     });
 }
 
-/// Two algorithms that 105 and 106 take, but not both in one certificate.
-fn add_two_algorithms(faults: &mut Catalogue) {
-    let mut faults = faults.touching(&[Algorithms]);
-    faults.add("two good algorithms that differ", &[107], CARD, |pair, random, _| {
-        let mut algorithms = good_signatures();
-        random.shuffle(&mut algorithms);
-        let [inner, outer, ..] = algorithms;
-        pair.certificate.inner_algorithm = inner;
-        pair.certificate.outer_algorithm = outer.breaking(107);
-    });
-}
-
-fn wrong_algorithm(profile: u8, random: &mut Random) -> Element {
-    let mut wrong = wrong_algorithms(profile);
-    wrong.swap_remove(random.below(wrong.len()))
-}
-
-/// Algorithms that neither 105 nor 106 takes in a profile.
-pub fn wrong_algorithms(profile: u8) -> Vec<Element> {
-    let null = || Some(Element::null());
-    let mut wrong = vec![
-        algorithm(oid::sha256_with_rsa(), None),
-        algorithm(oid::sha256_with_rsa(), Some(Element::octet_string(&[]))),
-        algorithm(oid::sha1_with_rsa(), null()),
-        algorithm(oid::sha384_with_rsa(), null()),
-        algorithm(oid::rsa_encryption(), null()),
-        algorithm(oid::elliptic_curve_key(), None),
-        algorithm(oid::ecdsa_with_sha1(), None),
-        algorithm(oid::ecdsa_with_sha224(), None),
-    ];
-    for identifier in [oid::ecdsa_with_sha256(), oid::ecdsa_with_sha384(), oid::ecdsa_with_sha512()] {
-        let curve = Element::object_identifier(&oid::curve_p256());
-        wrong.extend(
-            [Element::null(), curve, Element::sequence(vec![])]
-                .map(|parameters| algorithm(identifier.clone(), Some(parameters))),
-        );
-        if !is_card(profile) {
-            wrong.push(algorithm(identifier, None));
-        }
+fn wrong_algorithm(random: &mut Random) -> Element {
+    match random.below(5) {
+        0 => algorithm(oid::sha256_with_rsa(), None),
+        1 => algorithm(oid::sha256_with_rsa(), Some(Element::octet_string(&[]))),
+        2 => algorithm(oid::sha1_with_rsa(), Some(Element::null())),
+        3 => algorithm(oid::rsa_encryption(), Some(Element::null())),
+        _ => algorithm(oid::ecdsa_with_sha256(), None),
     }
-    wrong
 }
 
 fn add_issuer_name(faults: &mut Catalogue) {
@@ -178,27 +143,29 @@ fn add_times(faults: &mut Catalogue) {
     faults.add("notBefore a GeneralizedTime before 2050", &[109], ALL, |pair, random, _| {
         let not_before =
             if random.once_in(2) { Moment::at(2049, 12, 31).later(DAY - 1) } else { early(random) };
-        let not_after = not_before.later(DAY).due_form();
-        set_times(pair, not_before.generalized().breaking(109), not_after);
+        pair.certificate.not_before = not_before.generalized().breaking(109);
+        pair.certificate.not_after = not_before.later(DAY).due_form();
     });
     faults.add("both times GeneralizedTime before 2050", &[109], ALL, |pair, _, _| {
         let not_before = Moment::at(2024, 2, 29);
-        let not_after = not_before.later(7 * DAY).generalized().breaking(109);
-        set_times(pair, not_before.generalized().breaking(109), not_after);
+        pair.certificate.not_before = not_before.generalized().breaking(109);
+        pair.certificate.not_after = not_before.later(7 * DAY).generalized().breaking(109);
     });
     faults.add("notAfter a GeneralizedTime before 2050", &[109], ALL, |pair, random, _| {
         let not_before = early(random);
-        set_times(pair, not_before.utc(), not_before.later(DAY).generalized().breaking(109));
+        pair.certificate.not_before = not_before.utc();
+        pair.certificate.not_after = not_before.later(DAY).generalized().breaking(109);
     });
     faults.add("times of the first years", &[109], ALL, |pair, _, _| {
         let not_before = Moment::at(0, 2, 29);
-        let not_after = not_before.later(DAY).generalized().breaking(109);
-        set_times(pair, not_before.generalized().breaking(109), not_after);
+        pair.certificate.not_before = not_before.generalized().breaking(109);
+        pair.certificate.not_after = not_before.later(DAY).generalized().breaking(109);
     });
     faults.add("notAfter before notBefore", &[110], ALL, |pair, random, _| {
         let not_after = any_moment(random);
         let seconds = if random.once_in(2) { 1 } else { random.between(1, 500 * DAY as usize) as i64 };
-        set_times(pair, not_after.later(seconds).due_form(), not_after.due_form());
+        pair.certificate.not_before = not_after.later(seconds).due_form();
+        pair.certificate.not_after = not_after.due_form();
         pair.certificate.validity_marks.push(Mark::Breaks(110));
     });
     faults.add("valid a second too long or more", &[111], ALL, |pair, random, _| {
@@ -211,9 +178,9 @@ fn add_times(faults: &mut Catalogue) {
     });
 }
 
-fn add_years(faults: &mut Catalogue) {
+fn add_ten_years(faults: &mut Catalogue) {
     let mut faults = faults.touching(&[Times]);
-    faults.add("too long from a 29 February", &[111], AUTHORITY_AND_CARD, |pair, random, _| {
+    faults.add("too long from a 29 February", &[111], AUTHORITY, |pair, random, _| {
         let year = *random.choose(&[1952, 2024, 2040, 2048, 2096, 2396, 9972]);
         let start = Moment::at(year, 2, 29).later(random.below(DAY as usize) as i64);
         // A day over is still before 1 March at the same time, which might be taken for the anniversary.
@@ -222,14 +189,6 @@ fn add_years(faults: &mut Catalogue) {
     faults.add("too long at the end of all years", &[111], AUTHORITY, |pair, _, _| {
         // The anniversary is the last second that can be written.
         too_long(pair, Moment::at(9990, 1, 1).later(-1), 1);
-    });
-    faults.add("too long at the end of all years", &[111], CARD, |pair, _, _| {
-        too_long(pair, Moment::at(9997, 1, 1).later(-1), 1);
-    });
-    faults.add("a day or more too long", &[111], CARD, |pair, random, _| {
-        // Three years of 365 days are up to a day short, and one of 366 too long.
-        let start = Moment::at(random.between(2016, 2030) as i64, random.between(1, 12) as i64, 28);
-        too_long(pair, start, *random.choose(&[DAY, DAY + 1, 2 * DAY]));
     });
 }
 
@@ -241,23 +200,17 @@ fn early(random: &mut Random) -> Moment {
 /// Ends the validity so many seconds after the last one that is permitted.
 fn too_long(pair: &mut Pair, not_before: Moment, over: i64) {
     let not_after = last_permitted_second(pair.profile, not_before).later(over);
-    set_times(pair, not_before.due_form(), not_after.due_form());
+    pair.certificate.not_before = not_before.due_form();
+    pair.certificate.not_after = not_after.due_form();
     pair.certificate.validity_marks.push(Mark::Breaks(111));
-}
-
-/// Gives the certificate other times. From a certain day on PIV needs a UUID, so it gets one whatever the times are.
-fn set_times(pair: &mut Pair, not_before: Element, not_after: Element) {
-    pair.certificate.not_before = not_before;
-    pair.certificate.not_after = not_after;
-    ensure_uuid(pair);
 }
 
 fn add_subject_attributes(faults: &mut Catalogue) {
     let mut faults = faults.touching(&[OtherAttributes]);
-    faults.add("a subject attribute too many", &[112], WEB, |pair, random, _| {
+    faults.add("a subject attribute too many", &[112], ALL, |pair, random, _| {
         add_strange_attributes(pair, 1, random);
     });
-    faults.add("three subject attributes too many", &[112], WEB, |pair, random, _| {
+    faults.add("three subject attributes too many", &[112], ALL, |pair, random, _| {
         add_strange_attributes(pair, 3, random);
     });
     faults.add("a good organization where none belongs", &[112], DOMAIN, |pair, _, _| {
@@ -286,7 +239,7 @@ fn add_strange_attributes(pair: &mut Pair, count: usize, random: &mut Random) {
 
 fn add_count_of_common_names(faults: &mut Catalogue) {
     let mut faults = faults.touching(&[CommonName]);
-    faults.add("no CN", &[113], WEB, |pair, _, _| {
+    faults.add("no CN", &[113], ALL, |pair, _, _| {
         pair.certificate.subject.remove(&oid::common_name());
         pair.certificate.subject.breaks(113);
     });
@@ -388,18 +341,18 @@ fn set_common_name(pair: &mut Pair, text: &[u8]) {
 
 fn add_country(faults: &mut Catalogue) {
     let mut faults = faults.touching(&[Country]);
-    faults.add("no C", &[114], WEB, |pair, _, _| {
+    faults.add("no C", &[114], ALL, |pair, _, _| {
         pair.certificate.subject.remove(&oid::country());
         pair.certificate.subject.breaks(114);
     });
-    faults.add("a second C", &[114], WEB, |pair, _, _| {
+    faults.add("a second C", &[114], ALL, |pair, _, _| {
         pair.certificate.subject.push(Attribute::new(oid::country(), Element::printable("US")).breaking(114));
     });
-    faults.add("a second C that is wrong", &[114, 115], WEB, |pair, _, _| {
+    faults.add("a second C that is wrong", &[114, 115], ALL, |pair, _, _| {
         let further = Attribute::new(oid::country(), Element::printable("CA"));
         pair.certificate.subject.push(further.breaking(114).breaking(115));
     });
-    faults.add("C not the PrintableString US", &[115], WEB, |pair, random, _| {
+    faults.add("C not the PrintableString US", &[115], ALL, |pair, random, _| {
         let wrong = match random.below(6) {
             0 => Element::utf8("US"),
             1 => Element::printable("us"),

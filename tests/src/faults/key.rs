@@ -1,4 +1,4 @@
-//! Faults of the key, rules 201 to 208 and 501.
+//! Faults of the key, rules 201 to 208.
 
 use super::Aspect::*;
 use super::Catalogue;
@@ -7,12 +7,11 @@ use crate::correct::{plain_value, Pair};
 use crate::element::{tag, Element, LengthForm, Mark, Part};
 use crate::keys::*;
 use crate::object_identifiers as oid;
-use crate::profile::{ALL, AUTHORITY_AND_CARD, CARD, END_ENTITY, RESPONDER, SERVER, WEB, WITH_RSA_ONLY};
+use crate::profile::{ALL, AUTHORITY, END_ENTITY, RESPONDER, SERVER, WITH_RSA_ONLY};
 use crate::random::Random;
 
 pub(super) fn add(faults: &mut Catalogue) {
     add_algorithm(faults);
-    add_algorithm_of_card(faults);
     add_parameters(faults);
     add_rsa_bits(faults);
     add_modulus(faults);
@@ -27,7 +26,7 @@ fn plain_usage(pair: &mut Pair) {
 
 fn add_algorithm(faults: &mut Catalogue) {
     let mut faults = faults.touching(&[Key, Extension(4)]);
-    faults.add("a key of another algorithm", &[201], WEB, |pair, random, _| {
+    faults.add("a key of another algorithm", &[201], ALL, |pair, random, _| {
         let identifier = random.choose(&[oid::ed25519, oid::sha256_with_rsa, oid::curve_p256])();
         use_other_key(&mut pair.certificate, identifier, random);
         pair.certificate.key_algorithm.marks.push(Mark::Breaks(201));
@@ -40,53 +39,13 @@ fn add_algorithm(faults: &mut Catalogue) {
         pair.certificate.key_algorithm.marks.push(Mark::Breaks(201));
         plain_usage(pair);
     });
-    faults.add("another algorithm with the bits of a bad RSA key", &[201], WEB, |pair, _, _| {
+    faults.add("another algorithm with the bits of a bad RSA key", &[201], ALL, |pair, _, _| {
         // Only an RSA key is judged by 204 to 208.
         use_rsa(&mut pair.certificate, &[15], &[2]);
         pair.certificate.key_kind = KeyKind::Other;
         pair.certificate.key_algorithm = algorithm(oid::ed25519(), Some(Element::null())).breaking(201);
         plain_usage(pair);
     });
-}
-
-/// Keys that are neither RSA nor EC on one of two curves. What the bits are is not judged then.
-fn add_algorithm_of_card(faults: &mut Catalogue) {
-    let mut faults = faults.touching(&[Key]);
-    faults.add("a key of another algorithm", &[501], CARD, |pair, random, _| {
-        let identifier = random.choose(&[oid::ed25519, oid::sha256_with_rsa, oid::curve_p256])();
-        use_other_key(&mut pair.certificate, identifier, random);
-        pair.certificate.key_algorithm.marks.push(Mark::Breaks(501));
-    });
-    faults.add("an EC key on no allowed curve", &[501], CARD, |pair, random, _| {
-        let mut wrong = wrong_curves();
-        let parameters = wrong.swap_remove(random.below(wrong.len()));
-        use_elliptic_curve(&mut pair.certificate, parameters, random);
-        pair.certificate.key_algorithm.marks.push(Mark::Breaks(501));
-    });
-    faults.add("another algorithm with the bits of a bad RSA key", &[501], CARD, |pair, _, _| {
-        use_rsa(&mut pair.certificate, &[15], &[2]);
-        pair.certificate.key_kind = KeyKind::Other;
-        pair.certificate.key_algorithm = algorithm(oid::ed25519(), Some(Element::null())).breaking(501);
-    });
-}
-
-/// Parameters of an EC key that are neither P-256 nor P-384.
-pub fn wrong_curves() -> Vec<Option<Element>> {
-    let curves = [oid::curve_p521(), oid::curve_p224(), oid::curve_k256(), oid::elliptic_curve_key()];
-    let mut wrong: Vec<Option<Element>> =
-        curves.iter().map(|curve| Some(Element::object_identifier(curve))).collect();
-    let longer = [oid::curve_p256(), vec![1]].concat();
-    wrong.extend([
-        None,
-        Some(Element::null()),
-        Some(Element::sequence(vec![Element::integer(&[1])])),
-        Some(Element::sequence(vec![Element::object_identifier(&oid::curve_p256())])),
-        Some(Element::octet_string(&oid::curve_p256())),
-        Some(Element::primitive(tag::context(6), &oid::curve_p384())),
-        Some(Element::object_identifier(&longer)),
-        Some(Element::object_identifier(&oid::curve_p384()[..4])),
-    ]);
-    wrong
 }
 
 fn add_parameters(faults: &mut Catalogue) {
@@ -191,7 +150,7 @@ fn add_modulus(faults: &mut Catalogue) {
         break_at(pair, node::MODULUS, 207);
         plain_usage(pair);
     });
-    faults.add("a modulus under 2048 bits", &[208], AUTHORITY_AND_CARD, |pair, random, _| {
+    faults.add("a modulus under 2048 bits", &[208], AUTHORITY, |pair, random, _| {
         let moduli: [&[u8]; 5] = [&[1], &[15], &[0x80; 128], &[0xFF; 255], &[0x7F; 256]];
         let exponents: [&[u8]; 4] = [&[1], &[3], &[1, 0, 1], &[0xFF; 300]];
         let (modulus, exponent) = (*random.choose(&moduli), *random.choose(&exponents));

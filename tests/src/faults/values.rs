@@ -120,7 +120,7 @@ pub fn wrong_paths() -> Vec<Element> {
 
 fn add_subject_key(faults: &mut Catalogue) {
     let mut faults = faults.touching(&[Extension(3)]);
-    faults.add("a subject key identifier not of 20 octets", &[403], WEB, |pair, random, _| {
+    faults.add("a subject key identifier not of 20 octets", &[403], ALL, |pair, random, _| {
         let length = *random.choose(&[0, 1, 19, 21, 32, 127, 128]);
         let identifier = random.octets(length);
         pair.extension(3).set_value(Element::octet_string(&identifier));
@@ -243,7 +243,7 @@ fn other_purpose(profile: u8, random: &mut Random) -> Vec<u8> {
 
 fn add_policies(faults: &mut Catalogue) {
     let mut faults = faults.touching(&[Extension(6)]);
-    faults.add("no federal policy", &[409], WEB, |pair, random, _| {
+    faults.add("no federal policy", &[409], ALL, |pair, random, _| {
         let mut policies: Vec<Element> = Vec::new();
         let forum = forum_policies(pair.profile);
         policies.extend(forum.into_iter().map(|identifier| policy(identifier, vec![])));
@@ -476,7 +476,7 @@ fn add_access_of_authority(faults: &mut Catalogue) {
     });
 }
 
-pub(super) fn http_issuers() -> Element {
+fn http_issuers() -> Element {
     access(oid::access_to_issuers(), uri("http://a/b"))
 }
 
@@ -485,12 +485,12 @@ fn set_access(pair: &mut Pair, entries: Vec<Element>, rule: u16) {
     pair.extension(8).breaks_at_value(rule);
 }
 
-pub(super) fn odd_location() -> Element {
+fn odd_location() -> Element {
     directory(&crate::certificate::Name::default())
 }
 
 /// A location that is no URI, or a URI that is not "http://" and something after it.
-pub(super) fn not_http(random: &mut Random) -> Element {
+fn not_http(random: &mut Random) -> Element {
     match random.below(4) {
         0 => odd_location(),
         1 => dns("http://a.b/c"),
@@ -513,13 +513,13 @@ fn add_points(faults: &mut Catalogue) {
         set_points(pair, points);
         pair.extension(9).breaks_at_value(418);
     });
-    faults.add("only a relative name", &[418], WEB, |pair, _, _| {
+    faults.add("only a relative name", &[418], ALL, |pair, _, _| {
         let value = Element::primitive(tag::IA5_STRING, b"http://crl.agency.example/");
         let attribute = crate::certificate::Attribute::new(oid::common_name(), value).element();
         set_points(pair, vec![point(vec![relative_name(vec![attribute])])]);
         pair.extension(9).breaks_at_value(418);
     });
-    faults.add("an HTTP address only as the list's issuer", &[418, 419], WEB, |pair, _, _| {
+    faults.add("an HTTP address only as the list's issuer", &[418, 419], ALL, |pair, _, _| {
         set_points(pair, vec![point(vec![list_issuer(vec![uri("http://a")])]).breaking(419)]);
         pair.extension(9).breaks_at_value(418);
     });
@@ -567,16 +567,16 @@ fn odd_uri(random: &mut Random) -> Element {
     uri(random.choose::<&str>(&NOT_HTTP)).breaking(424)
 }
 
-pub(super) fn set_points(pair: &mut Pair, points: Vec<Element>) {
+fn set_points(pair: &mut Pair, points: Vec<Element>) {
     set_extension(pair, 9, Element::sequence(points));
 }
 
-pub(super) fn http_point() -> Element {
+fn http_point() -> Element {
     point(vec![full_name(vec![uri("http://crl.agency.example/1")])])
 }
 
 /// One entry even where a point has both fields.
-pub(super) fn odd_point(random: &mut Random) -> Element {
+fn odd_point(random: &mut Random) -> Element {
     let mut fields = Vec::new();
     if random.once_in(2) {
         fields.push(full_name(vec![uri("http://crl.agency.example/2")]));

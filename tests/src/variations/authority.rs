@@ -79,7 +79,7 @@ fn vary_alternative_names(pair: &mut Pair, random: &mut Random) {
     set_extension(pair, 7, general_names(names));
 }
 
-pub(super) fn any_http(random: &mut Random) -> Element {
+fn any_http(random: &mut Random) -> Element {
     uri(random.choose::<&str>(&["http://agency.example/1", "HTTP://x", "hTtP:///", "http://?"]))
 }
 
@@ -130,12 +130,7 @@ fn any_subtree(random: &mut Random) -> Element {
 
 /// Nocheck, and extensions that the table does not have, critical or not, each at most once.
 fn vary_other_extensions(pair: &mut Pair, random: &mut Random) {
-    let others = [
-        oid::ocsp_nocheck(),
-        oid::transparency_list(),
-        oid::private_key_usage_period(),
-        oid::interim_indicator(),
-    ];
+    let others = [oid::ocsp_nocheck(), oid::transparency_list(), oid::private_key_usage_period()];
     for identifier in others {
         if random.once_in(3) {
             let critical = random.once_in(2);

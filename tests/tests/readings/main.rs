@@ -4,10 +4,6 @@
 mod authority_extensions;
 mod authority_fields;
 mod authority_values;
-mod card_extensions;
-mod card_fields;
-mod card_names;
-mod card_values;
 mod issuer;
 mod places;
 mod refusals;
@@ -17,9 +13,7 @@ mod values;
 
 use comparison::bad_values::nested_other_name;
 use comparison::calendar::Moment;
-use comparison::certificate::{
-    algorithm, node, signature_algorithm, version, Attribute, Extension, Name, RelativeName,
-};
+use comparison::certificate::{algorithm, node, version, Attribute, Extension, Name, RelativeName};
 use comparison::correct::*;
 use comparison::element::{tag, Element, Mark, Part};
 use comparison::faults::values::{long_host, NOT_HTTP};
@@ -58,12 +52,6 @@ fn hold_refusal(what: &str, change: impl Fn(&mut Element)) {
 
 fn refuse(element: &mut Element, number: u8) {
     element.marks.push(Mark::Refused(number));
-}
-
-/// No full name of a point has an HTTP URI: 506 at cards, 418 elsewhere.
-fn lack_http_point(pair: &mut Pair) {
-    let rule = if pair.is_card() { 506 } else { 418 };
-    pair.extension(9).breaks_at_value(rule);
 }
 
 /// Holds both linters to the marks of the plain pair after a change, in each of these profiles.

@@ -75,23 +75,18 @@ fn a_missing_extension_is_placed_at_the_inner_sequence_or_at_the_tbs_structure()
     });
     in_every(ALL, "none there", |pair| {
         pair.certificate.extensions.clear();
-        pair.certificate.tbs_marks.extend(missing_from(pair.profile));
+        for slot in SLOTS.filter(|slot| standing(*slot, pair.profile).is_mandatory()) {
+            pair.certificate.tbs_marks.push(Mark::Breaks(300 + u16::from(slot)));
+        }
     });
     in_every(ALL, "none of the table there", |pair| {
+        let profile = pair.profile;
         pair.certificate.extensions =
             vec![Extension::new(oid::private_key_usage_period(), false, Element::null())];
-        pair.certificate.list_marks.extend(missing_from(pair.profile));
+        for slot in SLOTS.filter(|slot| standing(*slot, profile).is_mandatory()) {
+            pair.certificate.list_marks.push(Mark::Breaks(300 + u16::from(slot)));
+        }
     });
-}
-
-/// What is broken where none of the extensions is there that a profile needs.
-fn missing_from(profile: u8) -> Vec<Mark> {
-    let slots = SLOTS.filter(|slot| standing(*slot, profile).is_mandatory());
-    let mut marks: Vec<Mark> = slots.map(|slot| Mark::Breaks(300 + u16::from(slot))).collect();
-    if WITH_INDICATOR.contains(&profile) {
-        marks.push(Mark::Breaks(509));
-    }
-    marks
 }
 
 #[test]

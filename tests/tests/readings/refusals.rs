@@ -131,11 +131,8 @@ fn an_attribute_value_is_any_element() {
         Element::set_of(vec![]),
         Element::primitive(0xC5, &[1]),
     ] {
-        in_every(WEB, "any value", |pair| {
+        in_every(ALL, "any value", |pair| {
             pair.certificate.subject.push(Attribute::new(oid::locality(), value.clone()).breaking(112));
-        });
-        in_every(CARD, "any value", |pair| {
-            pair.certificate.subject.push(Attribute::new(oid::locality(), value.clone()));
         });
     }
 }

@@ -127,7 +127,7 @@ fn further_attributes_go_in_the_order_of_the_encoding_inside_sets_too() {
 
 #[test]
 fn further_attributes_are_judged_like_the_first() {
-    in_every(WEB, "a further wrong C", |pair| {
+    in_every(ALL, "a further wrong C", |pair| {
         let wrong = Attribute::new(oid::country(), Element::utf8("US"));
         pair.certificate.subject.push(wrong.breaking(114).breaking(115));
     });
@@ -250,7 +250,7 @@ fn an_http_uri_is_http_in_any_case_and_something_more() {
         in_every(ALL, "not HTTP", |pair| {
             let odd = breaking_in(pair.profile, 424, uri(address));
             set_extension(pair, 9, Element::sequence(vec![point(vec![full_name(vec![odd])])]));
-            lack_http_point(pair);
+            pair.extension(9).breaks_at_value(418);
         });
     }
 }
@@ -265,7 +265,7 @@ fn a_uri_is_the_name_form_6() {
         pair.extension(8).set_value(Element::sequence(entries));
         pair.extension(8).breaks_at_value(415);
     });
-    in_every(WEB, "any URI serves 415 and 416", |pair| {
+    in_every(ALL, "any URI serves 415 and 416", |pair| {
         let ocsp = breaking_in(pair.profile, 423, access(oid::access_by_ocsp(), uri("")));
         let issuers = breaking_in(pair.profile, 417, access(oid::access_to_issuers(), uri("x")));
         pair.extension(8).set_value(Element::sequence(vec![ocsp, issuers]));
@@ -273,11 +273,11 @@ fn a_uri_is_the_name_form_6() {
 }
 
 #[test]
-fn rules_418_and_506_look_at_full_names_only() {
+fn rule_418_looks_at_full_names_only() {
     in_every(ALL, "HTTP as the list's issuer", |pair| {
         let odd = point(vec![full_name(vec![dns("a.b")]), list_issuer(vec![uri("http://a")])]).breaking(419);
         set_extension(pair, 9, Element::sequence(vec![odd]));
-        lack_http_point(pair);
+        pair.extension(9).breaks_at_value(418);
     });
     in_every(ALL, "HTTP in the last of three points", |pair| {
         let points = vec![
@@ -316,7 +316,7 @@ fn host_names_at_the_edge_of_their_lengths() {
 
 #[test]
 fn a_wanted_purpose_twice_is_not_another_purpose() {
-    in_every(WEB, "twice", |pair| {
+    in_every(ALL, "twice", |pair| {
         let wanted = Element::object_identifier(&wanted_purpose(pair.profile));
         pair.extension(5).value().push(wanted);
     });

@@ -15,7 +15,7 @@ use Rattle.asn.specs.Module.{validity, subject_public_key_info, extension, exten
 use Rattle.asn.specs.Module.{general_names, authority_key_identifier, basic_constraints, subject_key_identifier, key_usage, ext_key_usage}
 use Rattle.asn.specs.Module.{policy_qualifier_info, policy_information, certificate_policies, access_description, authority_info_access}
 use Rattle.asn.specs.Module.{distribution_point_name, distribution_point, crl_distribution_points, ocsp_no_check, general_subtree, general_subtrees}
-use Rattle.asn.specs.Module.{name_constraints, interim_status, judged}
+use Rattle.asn.specs.Module.{name_constraints, judged}
 
 -- the types that have rows of their own, in the order of the rows
 unfoldable pub types : List Form
@@ -33,7 +33,6 @@ types =
     ∷ crl_distribution_points
     ∷ ocsp_no_check
     ∷ name_constraints
-    ∷ interim_status
     ∷ tbs_certificate
     ∷ algorithm_identifier
     ∷ bit_string

@@ -15,7 +15,7 @@ use native.Mathlib.Omega.{arith}
 use lib.ListN.{length, get_or}
 use lib.Dec.{eqb}
 use borrow.Author.Tests.{eq-eqb, eqb-true, eqb-false}
-use Rattle.certificate.specs.Extensions.{access_identifier, nocheck, interim_indicator, identifiers, position_from, slot_for, slot_of}
+use Rattle.certificate.specs.Extensions.{access_identifier, nocheck, identifiers, position_from, slot_for, slot_of}
 use Rattle.certificate.specs.Workings.Slots.{slot_by}
 use Rattle.certificate.specs.Extensions.{identifier_of, same_identifier, seen_before}
 use Rattle.certificate.specs.Slots.{slot_count, first_in_slot}
@@ -56,7 +56,6 @@ three a b d =
       same_length exactly (a ∷ b ∷ d ∷ []) access_identifier (λ e. omega arith),
       same_length exactly (a ∷ b ∷ d ∷ []) nocheck
           (λ e. omega arith),
-      same_length exactly (a ∷ b ∷ d ∷ []) interim_indicator (λ e. omega arith),
       three_same a b d 35,
       three_same a b d 19,
       three_same a b d 14,
@@ -85,19 +84,17 @@ slot_three s body n a b d l p q r =
     let e : body + 1 + 1 ≡ body + 2 = omega arith in
     rw (l, e, ← p, ← q, ← r) (three a b d)
 
-other : (c : List ℕ) → (length c ≡ 3 → ⊥)
-    → slot_for c ≡ cond (same_by exactly c access_identifier) 8 (cond (same_by exactly c nocheck) 10 (cond (same_by exactly c interim_indicator) 12 0))
+other : (c : List ℕ) → (length c ≡ 3 → ⊥) → slot_for c ≡ cond (same_by exactly c access_identifier) 8 (cond (same_by exactly c nocheck) 10 0)
 unfolding slot_for oid subidentifiers subidentifier sevens
 other c h = rw (no 35, no 19, no 14, no 15, no 37, no 32, no 17, no 31, no 30)
   where
     no : (n : ℕ) → same_by exactly c (short n) ≡ false
     no n = same_length exactly c (short n) h
 
--- x, y and z are whether it is one of the three longer identifiers
-pub slot_other : (s : List ℕ) (body n : ℕ) (x y z : Bool) → (n ≡ 3 → ⊥) → x ≡ same_by exactly (octets_from s body n) access_identifier
-    → y ≡ same_by exactly (octets_from s body n) nocheck → z ≡ same_by exactly (octets_from s body n) interim_indicator
-    → slot_for (octets_from s body n) ≡ cond x 8 (cond y 10 (cond z 12 0))
-slot_other s body n x y z h p q r = rw (p, q, r) (other (octets_from s body n) (λ e. h (sym (octets_long s body n) ∙ e)))
+-- x and y are whether it is one of the two longer identifiers
+pub slot_other : (s : List ℕ) (body n : ℕ) (x y : Bool) → (n ≡ 3 → ⊥) → x ≡ same_by exactly (octets_from s body n) access_identifier
+    → y ≡ same_by exactly (octets_from s body n) nocheck → slot_for (octets_from s body n) ≡ cond x 8 (cond y 10 0)
+slot_other s body n x y h p q = rw (p, q) (other (octets_from s body n) (λ e. h (sym (octets_long s body n) ∙ e)))
 
 -- ---- a slot is one of the table's, or 0
 

@@ -36,7 +36,7 @@ use Rattle.certificate.proofs.Laws.Values.{slot_empty, slot_at}
 -- ---- identifiers
 
 -- the identifiers of the table have its slots
-table_slots : all_below (λ j. eqb (slot_for (get_or identifiers j [])) (j + 1)) (slot_count - 1) ≡ true
+table_slots : all_below (λ j. eqb (slot_for (get_or identifiers j [])) (j + 1)) 11 ≡ true
 unfolding all_below slot_for same_by oid subidentifiers subidentifier sevens
 table_slots = refl
 
@@ -47,7 +47,7 @@ slot_identifier k c l m = go (same_by exactly c (identifier_at k)) refl (eqb (sl
     slot_of_lem e =
         let z : k - 1 + 1 ≡ k = omega (arith, l) in
         ap slot_for e
-        ∙ (eqb-true _ _ (all_below_lem (λ j. eqb (slot_for (get_or identifiers j [])) (j + 1)) (slot_count - 1) (k - 1) table_slots (omega (arith, l, m))) ∙ z)
+        ∙ (eqb-true _ _ (all_below_lem (λ j. eqb (slot_for (get_or identifiers j [])) (j + 1)) 11 (k - 1) table_slots (omega (arith, l, m))) ∙ z)
 
     go : (b : Bool) → same_by exactly c (identifier_at k) ≡ b → (d : Bool) → eqb (slot_for c) k ≡ d → d ≡ b
     go true t true u = refl

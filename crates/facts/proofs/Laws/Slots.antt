@@ -12,7 +12,7 @@ use mathlib.Core.Bool.{Bool, true, false, cond, false≢true}
 use Prim.Native.Nat.{ℕ, ◌<◌}
 use lib.ListN.{get_or}
 use native.Mathlib.Nat.{le_refl}
-use Rattle.facts.specs.Case.{case_in, standing_of, list_place}
+use Rattle.facts.specs.Case.{case_in, standing_of}
 use Rattle.facts.specs.Elements.{extensions_of, Element}
 use Rattle.facts.specs.Elements.Topmost.{in_value}
 use Rattle.facts.proofs.Laws.Members.{AllElements, here, among, same_element_lem, members_by, members_of_lem}
@@ -112,7 +112,7 @@ module _ (s : List ℕ) (e : certificate_verdict s ≡ Fits) where
       let n = named_in (certificate_extensions_named s e) i in
       members_by s h (ap constructed n.tag) (in_list h i) _ (among n.is (behind (Memᴰ.append_right n.boolean here)))
 
-  pub list_place_lem : Element s (list_place (certificate_of s))
+  pub list_place_lem : Element s (cond list.sound list (certificate_of s).tbs)
   list_place_lem = go list.sound refl
     where
       go : (b : Bool) → list.sound ≡ b → Element s (cond b list (certificate_of s).tbs)

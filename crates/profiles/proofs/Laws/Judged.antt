@@ -4,10 +4,9 @@
 use mathlib.Core.Path.{◌≡◌, refl, sym, ap, ◌∙◌}
 use mathlib.Core.List.{List, [], ◌∷◌}
 use mathlib.Core.Bool.{Bool, true, false, ◌&&◌}
-use Prim.Native.Nat.{ℕ, zero, suc, ◌/◌, ◌%◌, ◌^◌, ◌≤◌, ◌<◌}
+use Prim.Native.Nat.{ℕ, ◌/◌, ◌%◌, ◌^◌, ◌≤◌}
 use native.Mathlib.Nat.{zero-div}
 use native.Mathlib.Omega.{arith}
-use lib.ListN.{length, get_or}
 use lib.Dec.{ltb, eqb}
 use borrow.Author.Tests.{ne_eqb, ltb-true, ltb-false}
 use Rattle.octets.specs.Octets.{is_one_of}
@@ -15,9 +14,8 @@ use Rattle.octets.proofs.Laws.Finite.{all_below, all_below_lem, same, same_true}
 use Rattle.octets.proofs.Laws.Tests.{and_l, and_r}
 use Rattle.profiles.specs.Judged.{rule_table, rule_limit, row_of, judged_in, judged_by, judges}
 use Rattle.profiles.specs.Workings.Bits.{of_hundred, judged_bits, bit_in}
-use Rattle.profiles.specs.declared.fields.Badge.TheVariants.{Signature, Piv, PivInteroperable, Derived}
 use Rattle.profiles.specs.declared.fields.Profile.{Profile}
-use Rattle.profiles.specs.declared.fields.Profile.TheVariants.{Domain, Organization, Responder, Subordinate, Holder}
+use Rattle.profiles.specs.declared.fields.Profile.TheVariants.{Domain, Organization, Responder, Subordinate}
 use Rattle.profiles.specs.declared.levels.Level.{Level}
 use Rattle.profiles.specs.declared.levels.Level.TheVariants.{Must}
 
@@ -25,39 +23,19 @@ use Rattle.profiles.specs.declared.levels.Level.TheVariants.{Must}
 held_by : Profile → ℕ → Bool
 held_by p rule = bit_in (judged_bits p (rule / 100)) (rule % 100)
 
--- ---- below 600, by one computed test: a number's row is looked up once, and compared with the bits of every profile
+-- ---- below 500, by one computed test for each profile
 
-abbrev everyone : List Profile
-everyone = Domain ∷ Organization ∷ Responder ∷ Subordinate ∷ Holder Signature ∷ Holder Piv ∷ Holder PivInteroperable ∷ Holder Derived ∷ []
+agrees : Profile → ℕ → Bool
+agrees p rule = same (held_by p rule) (judges p rule)
 
-agrees : ℕ → List ℕ → List Profile → Bool
-agrees rule row [] = true
-agrees rule row (p ∷ ps) = same (held_by p rule) (judged_by p row) && agrees rule row ps
-
-all_agree : all_below (λ rule. agrees rule (judged_in rule) everyone) 600 ≡ true
+all_agree : (p : Profile) → all_below (agrees p) 500 ≡ true
 unfolding all_below agrees held_by same judged_by judged_in row_of is_one_of
-all_agree = refl
+all_agree Domain = refl
+all_agree Organization = refl
+all_agree Responder = refl
+all_agree Subordinate = refl
 
--- the kth of them does
-kth_agrees : (rule : ℕ) (row : List ℕ) (k : ℕ) (ps : List Profile) → k < length ps → agrees rule row ps ≡ true
-    → same (held_by (get_or ps k Domain) rule) (judged_by (get_or ps k Domain) row) ≡ true
-unfolding agrees
-kth_agrees rule row k [] l e = absurd (omega arith)
-kth_agrees rule row zero (p ∷ ps) l e = and_l (same (held_by p rule) (judged_by p row)) (agrees rule row ps) e
-kth_agrees rule row (suc k) (p ∷ ps) l e =
-    kth_agrees rule row k ps (omega arith) (and_r (same (held_by p rule) (judged_by p row)) (agrees rule row ps) e)
-
-agreed : (p : Profile) (rule : ℕ) (row : List ℕ) → agrees rule row everyone ≡ true → same (held_by p rule) (judged_by p row) ≡ true
-agreed Domain rule row e = kth_agrees rule row 0 everyone (omega arith) e
-agreed Organization rule row e = kth_agrees rule row 1 everyone (omega arith) e
-agreed Responder rule row e = kth_agrees rule row 2 everyone (omega arith) e
-agreed Subordinate rule row e = kth_agrees rule row 3 everyone (omega arith) e
-agreed (Holder Signature) rule row e = kth_agrees rule row 4 everyone (omega arith) e
-agreed (Holder Piv) rule row e = kth_agrees rule row 5 everyone (omega arith) e
-agreed (Holder PivInteroperable) rule row e = kth_agrees rule row 6 everyone (omega arith) e
-agreed (Holder Derived) rule row e = kth_agrees rule row 7 everyone (omega arith) e
-
--- ---- from 600 on there is no rule, and no bit
+-- ---- from 500 on there is no rule, and no bit
 
 all_rules : (ℕ × Level × List ℕ → Bool) → List (ℕ × Level × List ℕ) → Bool
 all_rules test [] = true
@@ -76,29 +54,24 @@ all_said : all_rules (λ row. ltb row.0 rule_limit) rule_table ≡ true
 unfolding all_rules
 all_said = refl
 
-no_rule : (p : Profile) (rule : ℕ) → 600 ≤ rule → judges p rule ≡ false
+no_rule : (p : Profile) (rule : ℕ) → 500 ≤ rule → judges p rule ≡ false
 unfolding judged_in judged_by is_one_of
 no_rule p rule l = ap (λ (row : Level × List ℕ). judged_by p row.1) (row_past rule_table rule_limit rule all_said (omega (arith, l)))
 
-no_hundred : (hundred a b c d e : ℕ) → 6 ≤ hundred → of_hundred hundred a b c d e ≡ 0
-no_hundred hundred a b c d e l =
+no_hundred : (hundred a b c d : ℕ) → 5 ≤ hundred → of_hundred hundred a b c d ≡ 0
+no_hundred hundred a b c d l =
     rw (
       ne_eqb hundred 1 (λ q. omega (arith, l, q)),
       ne_eqb hundred 2 (λ q. omega (arith, l, q)),
       ne_eqb hundred 3 (λ q. omega (arith, l, q)),
       ne_eqb hundred 4 (λ q. omega (arith, l, q)),
-      ne_eqb hundred 5 (λ q. omega (arith, l, q)),
     )
 
-no_bits : (p : Profile) (hundred : ℕ) → 6 ≤ hundred → judged_bits p hundred ≡ 0
-no_bits Domain hundred l = no_hundred hundred _ _ _ _ _ l
-no_bits Organization hundred l = no_hundred hundred _ _ _ _ _ l
-no_bits Responder hundred l = no_hundred hundred _ _ _ _ _ l
-no_bits Subordinate hundred l = no_hundred hundred _ _ _ _ _ l
-no_bits (Holder Signature) hundred l = no_hundred hundred _ _ _ _ _ l
-no_bits (Holder Piv) hundred l = no_hundred hundred _ _ _ _ _ l
-no_bits (Holder PivInteroperable) hundred l = no_hundred hundred _ _ _ _ _ l
-no_bits (Holder Derived) hundred l = no_hundred hundred _ _ _ _ _ l
+no_bits : (p : Profile) (hundred : ℕ) → 5 ≤ hundred → judged_bits p hundred ≡ 0
+no_bits Domain hundred l = no_hundred hundred _ _ _ _ l
+no_bits Organization hundred l = no_hundred hundred _ _ _ _ l
+no_bits Responder hundred l = no_hundred hundred _ _ _ _ l
+no_bits Subordinate hundred l = no_hundred hundred _ _ _ _ l
 
 no_bit : (k : ℕ) → bit_in 0 k ≡ false
 no_bit k = rw (zero-div (2 ^ k)) (go (ltb k 64))
@@ -108,13 +81,11 @@ no_bit k = rw (zero-div (2 ^ k)) (go (ltb k 64))
     go false = refl
 
 pub bits_right : (p : Profile) (rule : ℕ) → bit_in (judged_bits p (rule / 100)) (rule % 100) ≡ judges p rule
-unfolding held_by
-bits_right p rule = go (ltb rule 600) refl
+unfolding agrees held_by
+bits_right p rule = go (ltb rule 500) refl
   where
-    go : (b : Bool) → ltb rule 600 ≡ b → bit_in (judged_bits p (rule / 100)) (rule % 100) ≡ judges p rule
-    go true e =
-        let all = all_below_lem (λ rule. agrees rule (judged_in rule) everyone) 600 rule all_agree (ltb-true rule 600 e) in
-        same_true (held_by p rule) (judges p rule) (agreed p rule (judged_in rule) all)
+    go : (b : Bool) → ltb rule 500 ≡ b → bit_in (judged_bits p (rule / 100)) (rule % 100) ≡ judges p rule
+    go true e = same_true (held_by p rule) (judges p rule) (all_below_lem (agrees p) 500 rule (all_agree p) (ltb-true rule 500 e))
     go false e =
-        let l = ltb-false rule 600 e in
+        let l = ltb-false rule 500 e in
         (λ i. bit_in (no_bits p (rule / 100) (omega (arith, l)) i) (rule % 100)) ∙ (no_bit (rule % 100) ∙ sym (no_rule p rule l))

@@ -51,9 +51,9 @@ level_else (row ∷ rows) rule e =
     first true = refl
     first false = refl
 
--- of document 01's rules none, of document 02's so far this one
+-- of document 01's rules and document 02's so far
 abbrev pub should_rules : List ℕ
-should_rules = 511 ∷ []
+should_rules = []
 
 table_says : should_in rule_table ≡ should_rules
 unfolding if_should should_in

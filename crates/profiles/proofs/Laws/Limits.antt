@@ -7,7 +7,7 @@ use Rattle.profiles.specs.Fields.{limit_of}
 use Rattle.profiles.specs.declared.fields.Limit.{Limit}
 use Rattle.profiles.specs.declared.fields.Limit.TheVariants.{Days, Years}
 use Rattle.profiles.specs.declared.fields.Profile.{Profile}
-use Rattle.profiles.specs.declared.fields.Profile.TheVariants.{Domain, Organization, Responder, Subordinate, Holder}
+use Rattle.profiles.specs.declared.fields.Profile.TheVariants.{Domain, Organization, Responder, Subordinate}
 
 abbrev pub Positive : Limit → Type 0
 Positive (Days days) = 0 < days
@@ -18,4 +18,3 @@ limit_positive Domain = omega arith
 limit_positive Organization = omega arith
 limit_positive Responder = omega arith
 limit_positive Subordinate = omega arith
-limit_positive (Holder b) = omega arith

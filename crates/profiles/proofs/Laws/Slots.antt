@@ -1,7 +1,6 @@
 -- The table of rules and document 01's table of extensions ("Rules on extensions") agree on rules 301 to 351.
---     missing_judged         300+s
---     criticality_judged     320+s
---     value_judged           340+s
+--     missing_judged                         300+s
+--     criticality_judged, value_judged       320+s and 340+s
 -- Assumes nothing.
 use mathlib.Core.Path.{◌≡◌, refl}
 use mathlib.Core.List.{List}
@@ -10,7 +9,7 @@ use Prim.Native.Nat.{ℕ, ◌+◌, ◌<◌}
 use Rattle.octets.specs.Same.{same_by, exactly}
 use Rattle.octets.proofs.Laws.Finite.{all_below, all_below_lem}
 use Rattle.octets.proofs.Laws.Same.{same_lists}
-use Rattle.profiles.specs.Extensions.{mandatory_in, criticality_in, listed_in}
+use Rattle.profiles.specs.Extensions.{mandatory_in, listed_in}
 use Rattle.profiles.specs.Judged.{judged_in, row_of}
 
 -- so that every number from 300 to 359 is asked for
@@ -28,9 +27,9 @@ pub missing_judged : (k : ℕ) → k < asked → judged_in (300 + k) ≡ mandato
 unfolding agrees all_below same_by judged_in row_of
 missing_judged = agreed (λ k. judged_in (300 + k)) mandatory_in refl
 
-pub criticality_judged : (k : ℕ) → k < asked → judged_in (320 + k) ≡ criticality_in k
+pub criticality_judged : (k : ℕ) → k < asked → judged_in (320 + k) ≡ listed_in k
 unfolding agrees all_below same_by judged_in row_of
-criticality_judged = agreed (λ k. judged_in (320 + k)) criticality_in refl
+criticality_judged = agreed (λ k. judged_in (320 + k)) listed_in refl
 
 pub value_judged : (k : ℕ) → k < asked → judged_in (340 + k) ≡ listed_in k
 unfolding agrees all_below same_by judged_in row_of

@@ -63,28 +63,19 @@ use Rattle.rules_values.specs.Points.{point_rows}
 use Rattle.rules_values.specs.Authority.{authority_rows}
 use Rattle.rules_values.specs.Rules.{value_rows}
 use Rattle.rules_values.proofs.Laws.Rows.{values_ok}
-use Rattle.rules_badge.specs.Key.{badge_key_rows}
-use Rattle.rules_badge.specs.Usage.{usage_and_policy_rows}
-use Rattle.rules_badge.specs.Access.{access_and_point_rows}
-use Rattle.rules_badge.specs.Names.{card_name_rows}
-use Rattle.rules_badge.specs.Extensions.{indicator_and_purpose_rows}
-use Rattle.rules_badge.specs.Rules.{badge_rows, rows_by}
-use Rattle.rules_badge.proofs.Laws.Rows.{badge_ok}
 
 rules_ascend : (p : Profile) (f : Case) → ascend 101 rule_limit (all_rules p f) ≡ true
 unfolding
     ascend all_rules field_rows version_rows signature_rows validity_rows subject_rows country_rows organization_rows name_rows key_rows algorithm_rows
     rsa_rows extension_rows rows_over numbers_from identifier_rows value_rows key_identifier_rows usage_rows purpose_rows policy_rows host_rows access_rows
-    point_rows authority_rows badge_rows rows_by badge_key_rows usage_and_policy_rows access_and_point_rows card_name_rows indicator_and_purpose_rows
+    point_rows authority_rows
 rules_ascend p f = refl
 
 module _ (p : Profile) (s : List ℕ) (k : Known) where
   rules_ok : certificate_verdict s ≡ Fits → RowsOk (Element s) (rules_for p s k)
   unfolding all_rules
   rules_ok e =
-      ok_join (fields_ok s e p k)
-      (ok_join (subject_ok s e p k)
-      (ok_join (key_ok s e p k) (ok_join (extensions_ok s e p k) (ok_join (values_ok s e k p) (badge_ok s e p k)))))
+      ok_join (fields_ok s e p k) (ok_join (subject_ok s e p k) (ok_join (key_ok s e p k) (ok_join (extensions_ok s e p k) (values_ok s e k p))))
 
   known_ordered : certificate_verdict s ≡ Fits → Ordered 101 rule_limit (findings_for p s k)
   unfolding findings_for
@@ -126,11 +117,10 @@ module _ (p : Profile) (s issuer : List ℕ) where
   -- how repeats are asked makes no difference
   asked_same : (k : Known)
       → all_rules p (case_by s k (seen_by s (certificate_of s).extensions (has_repeats s (certificate_of s).extensions))) ≡ all_rules p (case_in s k)
-  unfolding all_rules field_rows subject_rows key_rows value_rows badge_rows
+  unfolding all_rules field_rows subject_rows key_rows value_rows
   asked_same k =
       let c = case_in s k in
-      ap (λ (rows : List Row). field_rows p c ++ (subject_rows p c ++ (key_rows p c ++ (rows ++ (value_rows p c ++ badge_rows p c)))))
-      (extensions_same p s k)
+      ap (λ (rows : List Row). field_rows p c ++ (subject_rows p c ++ (key_rows p c ++ (rows ++ value_rows p c)))) (extensions_same p s k)
 
   pub found_by_facts : (f : Facts) → f ≡ facts_of s issuer → findings_of p (all_rules p (case_of s f issuer)) ≡ findings p s issuer
   unfolding findings findings_for

@@ -7,7 +7,7 @@ use mathlib.Core.List.{List, [], ◌∷◌, ◌++◌}
 use mathlib.Core.Logic.{⊎_elim}
 use mathlib.Core.Bool.{Bool, true, false, cond, not, ◌&&◌, ◌||◌}
 use Prim.Native.Nat.{ℕ}
-use Rattle.rules_extensions.specs.Slots.{rows_over}
+use Rattle.rules_extensions.specs.Slots.{list_place, rows_over}
 use Rattle.rules_extensions.specs.Identifiers.{identifier_rows}
 use Rattle.rules_extensions.specs.Rules.{extension_rows}
 use Rattle.rules_extensions.specs.declared.slots.Question.TheVariants.{Missing, Criticality, Value}
@@ -21,7 +21,7 @@ use Rattle.certificate.specs.Extensions.{extension_of, slot_of, is_period, seen_
 use Rattle.certificate.specs.Fields.{certificate_of}
 use Rattle.certificate.specs.Issuer.{Known}
 use Rattle.certificate.specs.Slots.{has_repeats}
-use Rattle.facts.specs.Case.{seen_by, case_in, list_place}
+use Rattle.facts.specs.Case.{seen_by, case_in}
 use Rattle.facts.proofs.Laws.Case.{case_by}
 use Rattle.report.specs.Forms.{filter}
 use Rattle.report.specs.Rows.{Row, ◌for◌⦂◌}

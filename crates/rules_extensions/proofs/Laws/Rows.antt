@@ -2,10 +2,10 @@
 --     extensions_ok     each of them at elements of the certificate, in their order
 -- Assumes nothing.
 use mathlib.Core.Path.{◌≡◌}
-use mathlib.Core.List.{List}
-use mathlib.Core.Bool.{Bool}
+use mathlib.Core.List.{List, [], ◌∷◌}
+use mathlib.Core.Bool.{Bool, true}
 use Prim.Native.Nat.{ℕ, ◌<◌}
-use Rattle.rules_extensions.specs.Slots.{is_miscritical_at, row_at, rows_over}
+use Rattle.rules_extensions.specs.Slots.{list_place, row_at, rows_over}
 use Rattle.rules_extensions.specs.Identifiers.{identifier_rows}
 use Rattle.rules_extensions.specs.Rules.{extension_rows}
 use Rattle.rules_extensions.specs.declared.slots.Question.{Question}
@@ -18,25 +18,32 @@ use Rattle.profiles.specs.declared.fields.Profile.{Profile}
 use Rattle.certificate.specs.Fields.{certificate_of}
 use Rattle.certificate.specs.Issuer.{Known}
 use Rattle.certificate.specs.Standing.{Standing}
-use Rattle.facts.specs.Case.{case_in, standing_of, list_place}
+use Rattle.facts.specs.Case.{case_in, standing_of}
 use Rattle.facts.specs.Elements.{Element}
-use Rattle.facts.proofs.Laws.Slots.{in_list, StandingOk, standing_ok}
-use Rattle.facts.proofs.Laws.Standings.{missing_ok, there_ok, bad_ok}
+use Rattle.facts.proofs.Laws.Slots.{in_list, list_place_lem, StandingOk, standing_ok}
 use Rattle.report.specs.Forms.{filter}
-use Rattle.report.specs.Rows.{◌for◌⦂◌}
+use Rattle.report.specs.Rows.{◌for◌⦂◌, broken_at}
 use Rattle.report.proofs.Terms.Rows.{RowOk, RowsOk}
 use Rattle.report.proofs.Terms.Rows.RowsOk.{no_rows, more_rows}
 use Rattle.report.proofs.Laws.Order.{children_apart}
-use Rattle.report.proofs.Laws.Rows.{each_ok, ok_join}
+use Rattle.report.proofs.Laws.Rows.{none_ok, at_ok, each_ok, ok_join}
 use Rattle.rules_extensions.proofs.Laws.Slots.{rows_from, slots_ok}
 
 module _ (s : List ℕ) (e : certificate_verdict s ≡ Fits) (p : Profile) (known : Known) where
   -- ---- slots
 
+  sole_ok : {ps : List ℕ} (rule : ℕ) (h : Head) → Element s h → RowOk (Element s) (rule for ps ⦂ (h ∷ []))
+  unfolding broken_at
+  sole_ok rule h k = at_ok rule true h (λ t. k)
+
   by_standing : (question : Question) (k : ℕ) (x : Standing) → StandingOk s k x → RowOk (Element s) (row_at question p (list_place (certificate_of s)) k x)
-  by_standing Missing k x o = missing_ok s _ x e
-  by_standing Criticality k x o = there_ok s k _ x (λ y. is_miscritical_at p k y.critical) o
-  by_standing Value k x o = bad_ok s k _ x o
+  by_standing Missing k x o = at_ok _ _ _ (λ t. list_place_lem s e)
+  by_standing Criticality k Standing.missing o = none_ok _
+  by_standing Criticality k (Standing.bad x) o = at_ok _ _ _ (λ t. o.place)
+  by_standing Criticality k (Standing.good x v) o = at_ok _ _ _ (λ t. o.there.place)
+  by_standing Value k Standing.missing o = none_ok _
+  by_standing Value k (Standing.bad x) o = sole_ok _ _ o.value
+  by_standing Value k (Standing.good x v) o = none_ok _
 
   over_ok : (question : Question) → RowsOk (Element s) (rows_over question p (list_place (certificate_of s)) (case_in s known).table)
   unfolding rows_over rows_from

@@ -12,7 +12,7 @@ use Rattle.rules_values.specs.Purposes.{purpose_rows}
 use Rattle.rules_values.specs.Policies.{policy_rows}
 use Rattle.rules_values.specs.Hosts.{host_rows}
 use Rattle.rules_values.specs.Access.{access_rows}
-use Rattle.rules_values.specs.Points.{point_rows}
+use Rattle.rules_values.specs.Points.{full_names_in, point_rows}
 use Rattle.rules_values.specs.Authority.{authority_rows}
 use Rattle.rules_values.specs.Rules.{value_rows}
 use Rattle.der.specs.Members.{members_in}
@@ -25,15 +25,15 @@ use Rattle.asn.specs.declared.fitting.Verdict.TheVariants.{Fits}
 use Rattle.profiles.specs.declared.fields.Profile.{Profile}
 use Rattle.certificate.specs.Slots.{slot_count}
 use Rattle.certificate.specs.declared.key.KeyKind.{KeyKind}
-use Rattle.certificate.specs.Standing.{Standing, where_good}
+use Rattle.certificate.specs.Standing.{Standing}
 use Rattle.certificate.specs.declared.extensions.Extension.{Extension}
 use Rattle.certificate.specs.Issuer.{KeyIdentifier, Known}
 use Rattle.facts.specs.Case.{case_in, standing_of}
 use Rattle.facts.specs.Elements.{Element}
 use Rattle.facts.proofs.Laws.Members.{AllElements, AllMembers, members_of_lem, listed_fit}
-use Rattle.facts.proofs.Laws.Slots.{GoodOk, standing_ok}
-use Rattle.facts.proofs.Laws.Standings.{good_ok, value_ok_lem}
-use Rattle.forms.specs.Lists.{items_within, full_names_in}
+use Rattle.facts.proofs.Laws.Slots.{GoodOk, StandingOk, standing_ok}
+use Rattle.forms.specs.Lists.{items_within}
+use Rattle.forms.specs.Values.{where_good}
 use Rattle.forms.specs.declared.nests.Nest.TheVariants.{Policy, Point}
 use Rattle.forms.proofs.Laws.Lists.{items_in}
 use Rattle.report.specs.Forms.{filter}
@@ -41,9 +41,16 @@ use Rattle.report.specs.Rows.{◌for◌⦂◌, broken_at}
 use Rattle.report.proofs.Terms.Rows.{RowOk, RowsOk}
 use Rattle.report.proofs.Terms.Rows.RowsOk.{no_rows, more_rows}
 use Rattle.report.proofs.Laws.Order.{children_apart}
-use Rattle.report.proofs.Laws.Rows.{each_ok, ok_join}
+use Rattle.report.proofs.Laws.Rows.{none_ok, at_ok, each_ok, ok_join}
 use Rattle.rules_values.proofs.Laws.Qualifiers.{qualifiers_of_lem, qualifiers_apart}
 use Rattle.rules_values.proofs.Laws.FullNames.{full_names_of, full_names_apart}
+
+-- where the value is not good, nothing breaks the rule
+good_ok : (s : List ℕ) (k : ℕ) {ps : List ℕ} (rule : ℕ) (x : Standing) (f : Extension → Head → List Head) → StandingOk s k x
+    → ((y : Extension) (v : Head) → GoodOk s k y v → RowOk (Element s) (rule for ps ⦂ f y v)) → RowOk (Element s) (rule for ps ⦂ where_good x f)
+good_ok s k rule Standing.missing f o g = none_ok rule
+good_ok s k rule (Standing.bad x) f o g = none_ok rule
+good_ok s k rule (Standing.good x v) f o g = g x v o
 
 module _ (s : List ℕ) (e : certificate_verdict s ≡ Fits) (known : Known) where
   abbrev standing : ℕ → Standing
@@ -54,7 +61,9 @@ module _ (s : List ℕ) (e : certificate_verdict s ≡ Fits) (known : Known) whe
   module _ (k : ℕ) (l : k < slot_count) (m : 0 < k) where
     -- at the OCTET STRING
     at : {ps : List ℕ} (rule : ℕ) (bad : Head → Bool) → RowOk (Element s) (rule for ps ⦂ where_good (standing k) (λ x v. broken_at (bad v) x.value))
-    at rule bad = value_ok_lem s k rule (standing k) bad (standing_ok s e k l known m)
+    at rule bad =
+        good_ok s k rule (standing k) (λ x v. broken_at (bad v) x.value) (standing_ok s e k l known m)
+        (λ x v g. at_ok rule (bad v) x.value (λ u. g.there.value))
 
     -- "each" over the members of a SEQUENCE OF
     module _ (f : Form) (type : value_of k ≡ sequence_of f) where

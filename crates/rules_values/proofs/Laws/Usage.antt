@@ -5,7 +5,7 @@ use mathlib.Core.Path.{◌≡◌, refl}
 use Rattle.rules_values.specs.Usage.{allowed_usage}
 use Rattle.profiles.specs.Values.{octet_with}
 use Rattle.profiles.specs.declared.fields.Profile.{Profile}
-use Rattle.profiles.specs.declared.fields.Profile.TheVariants.{Domain, Organization, Responder, Subordinate, Holder}
+use Rattle.profiles.specs.declared.fields.Profile.TheVariants.{Domain, Organization, Responder, Subordinate}
 use Rattle.certificate.specs.declared.key.KeyKind.{KeyKind}
 use Rattle.certificate.specs.declared.key.KeyKind.TheVariants.{Rsa, EllipticCurve, Other}
 use Rattle.usages.specs.Usage.{passing_below, bits_in}
@@ -24,6 +24,3 @@ allowed_named Responder Other = refl
 allowed_named Subordinate Rsa = refl
 allowed_named Subordinate EllipticCurve = refl
 allowed_named Subordinate Other = refl
-allowed_named (Holder b) Rsa = refl
-allowed_named (Holder b) EllipticCurve = refl
-allowed_named (Holder b) Other = refl

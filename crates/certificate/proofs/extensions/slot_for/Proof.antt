@@ -31,40 +31,28 @@ unfolding oid subidentifiers subidentifier sevens
 returns-3 c =
     let e = c.before in
     let a = e.before.before.before.before.args in
-    let other = slot_other a.s.now a.body a.n _ _ _ e.before.before.if1.false e.equals.ensures refl refl in
+    let other = slot_other a.s.now a.body a.n _ _ e.before.before.if1.false e.equals.ensures refl in
     sym (rw c.if3.true at other)
 
-returns-4 : tie.Need-returns-4
+-- the second of the longer identifiers is all that is left
+last : (c : tie.After-equals2) (y : Bool) → c.equals2.result ≡ y
+    → let a = c.before.before.before.before.before.before.before.args in
+    cond y 10 0 ≡ slot_for (octets_from a.s.now a.body a.n)
 unfolding oid subidentifiers subidentifier sevens
-returns-4 c =
-    let second = c.before in
-    let t = second.before.before in
+last c y same =
+    let t = c.before.before in
     let e = t.before in
-    let a = e.before.before.before.before.args in
-    let other = slot_other a.s.now a.body a.n _ _ _ e.before.before.if1.false e.equals.ensures second.equals2.ensures refl in
-    sym (rw (t.if3.false, c.if4.true) at other)
+    sym (slot_other _ _ _ _ _ e.before.before.if1.false e.equals.ensures c.equals2.ensures ∙
+    (λ k. cond (t.if3.false k) 8 (cond (same k) 10 0)))
 
--- the third of the longer identifiers is all that is left
-last : (c : tie.After-equals3) (z : Bool) → c.equals3.result ≡ z
-    → let a = c.before.before.before.before.before.before.before.before.before.before.args in
-    cond z 12 0 ≡ slot_for (octets_from a.s.now a.body a.n)
-unfolding oid subidentifiers subidentifier sevens
-last c z same =
-    let u = c.before.before in
-    let second = u.before in
-    let t = second.before.before in
-    let e = t.before in
-    sym (slot_other _ _ _ _ _ _ e.before.before.if1.false e.equals.ensures second.equals2.ensures c.equals3.ensures ∙
-    (λ k. cond (t.if3.false k) 8 (cond (u.if4.false k) 10 (cond (same k) 12 0))))
+returns-4 : tie.Need-returns-4
+returns-4 c = last c.before true c.if4.true
 
 returns-5 : tie.Need-returns-5
-returns-5 c = last c.before true c.if5.true
-
-returns-6 : tie.Need-returns-6
-returns-6 c = last c.before false c.if5.false
+returns-5 c = last c.before false c.if4.false
 
 pub slot-for-spec : {M : Type 1} → statement M
 slot-for-spec =
     tie.close
     (tie.spec (λ c κs. tt) (λ c κs. tt) (λ c κs. tt) (λ c κs. tt) returns returns-2 (λ c. search rules) (λ c κs. tt)
-    returns-3 (λ c. search rules) (λ c κs. tt) returns-4 (λ c. search rules) (λ c κs. tt) returns-5 returns-6)
+    returns-3 (λ c. search rules) (λ c κs. tt) returns-4 returns-5)

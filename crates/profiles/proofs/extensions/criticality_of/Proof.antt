@@ -15,11 +15,8 @@ returns-3 c = rw c.before.enum-told3.given.1 c.crit3.ensures
 returns-4 : tie.Need-returns-4
 returns-4 c = rw c.before.enum-told4.given.1 c.crit4.ensures
 
-returns-5 : tie.Need-returns-5
-returns-5 c = rw c.before.enum-told5.given.1 c.badge-criticality.ensures
-
 pub criticality-of-spec : {M : Type 1} → statement M
 criticality-of-spec =
     tie.close
     (tie.spec (λ c. search rules) (λ c κs. tt) (λ c. search rules) (λ c κs. tt) (λ c. search rules) (λ c κs. tt)
-    (λ c. search rules) (λ c κs. tt) (λ c. search rules) (λ c κs. tt) returns returns-2 returns-3 returns-4 returns-5)
+    (λ c. search rules) (λ c κs. tt) returns returns-2 returns-3 returns-4)

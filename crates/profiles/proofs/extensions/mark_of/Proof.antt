@@ -1,8 +1,5 @@
 -- `profiles::extensions::mark_of` meets its contract: an arm a profile. Assumes nothing.
-use mathlib.Core.Path.{ap, ◌∙◌}
 use borrow.Author.Rules.{rules}
-use Rattle.profiles.specs.Extensions.{badge_column, mark_in}
-use Rattle.profiles.specs.declared.extensions.Mark.{Mark}
 use Rattle.profiles.proofs.extensions.mark_of.Statement.{statement}
 use Rattle.profiles.proofs.extensions.mark_of.Tie as tie
 
@@ -18,16 +15,8 @@ returns-3 c = rw c.before.enum-told3.given.1 c.responder-mark.ensures
 returns-4 : tie.Need-returns-4
 returns-4 c = rw c.before.enum-told4.given.1 c.subordinate-mark.ensures
 
-returns-5 : tie.Need-returns-5
-returns-5 c =
-    let names = c.before in
-    let payload = names.before.before in
-    rw payload.p.given.1
-    (c.badge-mark.ensures
-    ∙ ap (λ (m : Mark). mark_in (badge_column m) payload.before.before.args.slot) names.names-mark.ensures)
-
 pub mark-of-spec : {M : Type 1} → statement M
 mark-of-spec =
     tie.close
     (tie.spec (λ c. search rules) (λ c κs. tt) (λ c. search rules) (λ c κs. tt) (λ c. search rules) (λ c κs. tt)
-    (λ c. search rules) (λ c κs. tt) (λ c. search rules) (λ c κs. tt) (λ c κs. tt) returns returns-2 returns-3 returns-4 returns-5)
+    (λ c. search rules) (λ c κs. tt) returns returns-2 returns-3 returns-4)

@@ -6,6 +6,8 @@ use Rattle.profiles.proofs.fields.limit_of.Tie as tie
 pub limit-of-spec : {M : Type 1} → statement M
 limit-of-spec =
     tie.close
-    (tie.spec (λ c. search rules) (λ c. search rules) (λ c. search rules) (λ c. search rules) (λ c. search rules)
-    (λ c. rw c.enum_told.given.1) (λ c. rw c.enum-told2.given.1) (λ c. rw c.enum-told3.given.1) (λ c. rw c.enum-told4.given.1)
-    (λ c. rw c.enum-told5.given.1))
+    (tie.spec (λ c. search rules) (λ c. search rules) (λ c. search rules) (λ c. search rules)
+    (λ c. rw c.enum_told.given.1)
+    (λ c. rw c.enum-told2.given.1)
+    (λ c. rw c.enum-told3.given.1)
+    (λ c. rw c.enum-told4.given.1))

@@ -22,34 +22,7 @@ returns-4 c = rw c.match.keys4
 
 returns-5 : tie.Need-returns-5
 unfolding asked_of
-returns-5 c = rw c.match.keys5
-
-returns-6 : tie.Need-returns-6
-unfolding asked_of
-returns-6 c = rw c.match.keys6
-
-returns-7 : tie.Need-returns-7
-unfolding asked_of
-returns-7 c = rw c.match.keys7
-
-returns-8 : tie.Need-returns-8
-unfolding asked_of
-returns-8 c = rw c.match.keys8
-
-returns-9 : tie.Need-returns-9
-unfolding asked_of
-returns-9 c =
-    let r = c.match.rest in
-    rw (
-      ne_eqb _ 1 r.0.0.0.0.0.0.0.1,
-      ne_eqb _ 2 r.0.0.0.0.0.0.1,
-      ne_eqb _ 3 r.0.0.0.0.0.1,
-      ne_eqb _ 4 r.0.0.0.0.1,
-      ne_eqb _ 5 r.0.0.0.1,
-      ne_eqb _ 6 r.0.0.1,
-      ne_eqb _ 7 r.0.1,
-      ne_eqb _ 8 r.1,
-    )
+returns-5 c = let r = c.match.rest in rw (ne_eqb _ 1 r.0.0.0.1, ne_eqb _ 2 r.0.0.1, ne_eqb _ 3 r.0.1, ne_eqb _ 4 r.1)
 
 pub profile-of-spec : {M : Type 1} → statement M
-profile-of-spec = tie.close (tie.spec returns returns-2 returns-3 returns-4 returns-5 returns-6 returns-7 returns-8 returns-9)
+profile-of-spec = tie.close (tie.spec returns returns-2 returns-3 returns-4 returns-5)

@@ -7,9 +7,8 @@ pub judged-bits-spec : {M : Type 1} → statement M
 judged-bits-spec =
     tie.close
     (tie.spec (λ c. search rules) (λ c κs. tt) (λ c. search rules) (λ c κs. tt) (λ c. search rules) (λ c κs. tt)
-    (λ c. search rules) (λ c κs. tt) (λ c. search rules) (λ c κs. tt)
+    (λ c. search rules) (λ c κs. tt)
     (λ c. rw c.before.enum_told.given.1 c.of-hundred.ensures)
     (λ c. rw c.before.enum-told2.given.1 c.of-hundred2.ensures)
     (λ c. rw c.before.enum-told3.given.1 c.of-hundred3.ensures)
-    (λ c. rw c.before.enum-told4.given.1 c.of-hundred4.ensures)
-    (λ c. rw c.before.before.p.given.1 c.badge-bits.ensures))
+    (λ c. rw c.before.enum-told4.given.1 c.of-hundred4.ensures))

@@ -3,13 +3,10 @@ use borrow.Author.Tests.{ne_eqb}
 use Rattle.profiles.proofs.judged.of_hundred.Statement.{statement}
 use Rattle.profiles.proofs.judged.of_hundred.Tie as tie
 
-returns-6 : tie.Need-returns-6
-returns-6 c =
-    let r = c.match.rest in
-    rw (ne_eqb _ 1 r.0.0.0.0.1, ne_eqb _ 2 r.0.0.0.1, ne_eqb _ 3 r.0.0.1, ne_eqb _ 4 r.0.1, ne_eqb _ 5 r.1)
+returns-5 : tie.Need-returns-5
+returns-5 c = let r = c.match.rest in rw (ne_eqb _ 1 r.0.0.0.1, ne_eqb _ 2 r.0.0.1, ne_eqb _ 3 r.0.1, ne_eqb _ 4 r.1)
 
 pub of-hundred-spec : {M : Type 1} → statement M
 of-hundred-spec =
     tie.close
-    (tie.spec (λ c. rw c.match.keys1) (λ c. rw c.match.keys2) (λ c. rw c.match.keys3) (λ c. rw c.match.keys4) (λ c. rw c.match.keys5)
-    returns-6)
+    (tie.spec (λ c. rw c.match.keys1) (λ c. rw c.match.keys2) (λ c. rw c.match.keys3) (λ c. rw c.match.keys4) returns-5)

@@ -17,8 +17,8 @@ returns c =
     let differ = stranger.before in
     let outer = differ.before in
     let inner = outer.before in
-    rw inner.is-taken.ensures at first.judge.ensures
-    ⟫ rw outer.is-taken2.ensures at second.judge2.ensures
+    rw inner.is-sha256-rsa.ensures at first.judge.ensures
+    ⟫ rw outer.is-sha256-rsa2.ensures at second.judge2.ensures
     ⟫ rw differ.same_element_lem.ensures at third.judge3.ensures
     ⟫ rw stranger.same-element2.ensures at fourth.judge4.ensures
 

@@ -2,7 +2,7 @@
 use mathlib.Core.List.{[], ◌∷◌}
 use borrow.Author.Rules.{rules}
 use Rattle.rules_values.specs.Identifiers.{rule401, rule402, rule403, key_identifier_rows}
-use Rattle.profiles.specs.Judged.{S, machines, every_profile, judged_in, row_of}
+use Rattle.profiles.specs.Judged.{S, every_profile, judged_in, row_of}
 use Rattle.forms.proofs.Laws.Values.{by_standing}
 use Rattle.certificate.specs.Issuer.{known}
 use Rattle.report.specs.Rows.{◌for◌⦂◌}
@@ -27,7 +27,7 @@ returns c =
     let twenty-put = rw twenty.is-twenty.ensures at third.judge-value3.ensures in
     by_standing a.p a.authority (λ e. 401 for every_profile ⦂ rule401 s key e ∷ []) (λ t. rw t at held-put) (λ t. rw t at held-put) (λ t. rw t at held-put)
     ⟫ by_standing a.p a.constraints (λ e. 402 for S ⦂ rule402 e ∷ []) (λ t. rw t at Filled-put) (λ t. rw t at Filled-put) (λ t. rw t at Filled-put)
-    ⟫ by_standing a.p a.subject (λ e. 403 for machines ⦂ rule403 e ∷ []) (λ t. rw t at twenty-put) (λ t. rw t at twenty-put) (λ t. rw t at twenty-put)
+    ⟫ by_standing a.p a.subject (λ e. 403 for every_profile ⦂ rule403 e ∷ []) (λ t. rw t at twenty-put) (λ t. rw t at twenty-put) (λ t. rw t at twenty-put)
 
 pub identifier-rules-spec : {M : Type 1} → statement M
 identifier-rules-spec =

@@ -1,3 +1,0 @@
--- Laws of the definitions, by file.
-pub mod Rows
-pub mod Unjudged

@@ -1,2 +1,0 @@
--- Laws of the definitions, which the layers above cite.
-pub mod Laws
