@@ -20,6 +20,8 @@
 // octets; one that meets a lost block writes `lost POSITION short`, `unsound` or `stray`. The last line is `records R
 // blocks B lost L`. Other than six octets, or more of room or of deck, get the line `no call`, and no deck is read; a
 // deck that is cut off by the end of the input gets nothing.
+#![tactic(auto)]
+
 mod calls;
 mod decks;
 mod lines;

@@ -13,7 +13,7 @@ use crate::table::{FIELDS, ROOTS, ROWS};
 use der::Head;
 
 // What becomes of an element against a type.
-#[derive(Drop)]
+#[derive(Clone, Copy)]
 pub enum Verdict {
     // no alternative has its identifier
     Stranger,
@@ -62,7 +62,7 @@ fn find_alternative(rows: &[u16], n: usize, tag: u8) -> usize
 
 // Where an element belongs: the row of the alternative that takes it, 0 if there is none, and the row of the fields
 // that the elements after it are held to.
-#[derive(Drop)]
+#[derive(Clone, Copy)]
 struct Found {
     row: usize,
     next: usize,

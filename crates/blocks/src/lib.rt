@@ -1,4 +1,6 @@
 // The deck's blocks: their fields, their check, and how many of them a record takes (document 01, "The deck").
+#![tactic(auto)]
+
 mod check;
 mod fields;
 

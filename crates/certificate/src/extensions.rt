@@ -6,7 +6,7 @@ ghost use Rattle.certificate.specs.Workings.Slots.{slot_by};
 
 use der::Head;
 
-#[derive(Drop)]
+#[derive(Clone, Copy)]
 pub struct Extension {
     // the Extension itself
     pub place: Head,

@@ -6,7 +6,7 @@ ghost use Rattle.certificate.specs.Fields.{list_after, time_in, time_is, validit
 use der::Head;
 use times::{Date, Reading, Time, Validity};
 
-#[derive(Drop)]
+#[derive(Clone, Copy)]
 pub struct Certificate {
     // the structure that is signed
     pub tbs: Head,

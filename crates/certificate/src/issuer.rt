@@ -6,7 +6,7 @@ use crate::fields::read;
 use crate::slots::{first_in_slot, slot_from};
 use der::Head;
 
-#[derive(Drop)]
+#[derive(Clone, Copy)]
 pub struct Issuer {
     // its subject
     pub name: Head,

@@ -4,7 +4,7 @@ ghost use Rattle.certificate.specs.Key.{kind_of, key_of};
 
 use der::Head;
 
-#[derive(Drop)]
+#[derive(Clone, Copy)]
 pub enum KeyKind {
     Rsa,
     EllipticCurve,
@@ -13,7 +13,7 @@ pub enum KeyKind {
 
 // Of a SubjectPublicKeyInfo the AlgorithmIdentifier, its parameters (not sound if there are none), the BIT STRING,
 // and the kind, which goes by the algorithm's OBJECT IDENTIFIER alone.
-#[derive(Drop)]
+#[derive(Clone, Copy)]
 pub struct Key {
     pub algorithm: Head,
     pub parameters: Head,

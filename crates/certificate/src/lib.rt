@@ -1,4 +1,6 @@
 // What an accepted certificate says: where its fields are, and what the rules ask of more than one of them.
+#![tactic(auto)]
+
 mod extensions;
 mod fields;
 mod issuer;

@@ -14,7 +14,7 @@ use der::Head;
 pub const SLOTS: usize = 12;
 
 // The first Extension in a slot.
-#[derive(Drop)]
+#[derive(Clone, Copy)]
 pub struct Slot {
     // the Extension; missing at the end of the list if there is none
     pub place: Head,
@@ -27,7 +27,7 @@ pub struct Slot {
     pub good: bool,
 }
 
-#[derive(Drop)]
+#[derive(Clone, Copy)]
 pub struct SlotTable {
     pub each: [Slot; SLOTS],
     // some Extension has an identifier seen before
@@ -35,7 +35,7 @@ pub struct SlotTable {
 }
 
 // What one walk along the list finds.
-#[derive(Drop)]
+#[derive(Clone, Copy)]
 struct Firsts {
     each: [Head; SLOTS],
     repeated: bool,

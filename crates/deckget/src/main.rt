@@ -4,6 +4,8 @@
 // the deck's order. Where there is no such record, where there is more than one, where the deck is too long or a call of
 // the system fails, standard error says so; other arguments get the usage line there. The exit status is 0 in each case,
 // since a Rattle program has no other; `bin/deckget` makes a status of what was said.
+#![tactic(auto)]
+
 mod sides;
 mod words;
 
@@ -44,7 +46,7 @@ fn side_space() -> [u8; SIDE]
 }
 
 // What became of the sides that were asked for.
-#[derive(Drop)]
+#[derive(Clone, Copy)]
 enum Outcome {
     // they were all written, so many
     Wrote(usize),

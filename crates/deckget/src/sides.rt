@@ -4,7 +4,7 @@ ghost use Rattle.deckget.specs.Sides.{side_named};
 
 use lint::Side;
 
-#[derive(Drop)]
+#[derive(Clone, Copy)]
 pub enum Choice {
     Known(Side),
     Unknown,

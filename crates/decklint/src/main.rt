@@ -5,6 +5,8 @@
 // fails the program ends there, and the listing lacks its last line. Either is said on standard error, by a line. An
 // argument gets the usage line there, and nothing is read. A program cannot choose its exit status: it is 0 unless a
 // signal ends it, as a write to a pipe that nobody reads does; `bin/decklint` makes a status of what was said.
+#![tactic(auto)]
+
 ghost use Rattle.std.specs.Prelude.{◌≡◌, ◌≤◌, length};
 ghost use Rattle.listing.specs.Filling.{item_space};
 

@@ -6,7 +6,7 @@ ghost use Rattle.deckpack.specs.Ending.{ending_of};
 use crate::words;
 
 // How a deck ends.
-#[derive(Drop)]
+#[derive(Clone, Copy)]
 pub enum Ending {
     // with a whole block, or it has none: it has so many octets
     Whole(u64),

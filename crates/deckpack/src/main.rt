@@ -5,6 +5,8 @@
 // `refused 3: the profile is not 1, 2, 3 or 4`, and then nothing is written; so it is where the arguments are no such four
 // or five, which the usage line says, and where a file cannot be read. A deck is opened once the record is judged. The
 // exit status is 0 in each case, since a Rattle program has no other; `bin/deckpack` makes a status of what was said.
+#![tactic(auto)]
+
 mod appending;
 mod words;
 
@@ -21,7 +23,7 @@ const ROOM: usize = 16896;
 const SIDE: usize = 8193;
 
 // Where the record's blocks go.
-#[derive(Drop)]
+#[derive(Clone, Copy)]
 enum Target {
     Output,
     // the file that the first argument names

@@ -5,7 +5,7 @@ ghost use Rattle.der.specs.Header.{tag_ok, broken_head, head_if, long_ok, length
 
 // An element: its start, its identifier octet, where its contents start and end. One whose header is not sound
 // has no contents and takes all that is left of its container.
-#[derive(Drop)]
+#[derive(Clone, Copy)]
 pub struct Head {
     pub at: usize,
     pub tag: u8,

@@ -1,5 +1,7 @@
 // Sound DER: an element's header, its members, what it says, the contents of the universal types, the order of a
 // SET's members, and the walk over elements within elements that refusals 4 and 5 rest on.
+#![tactic(auto)]
+
 mod arcs;
 mod comparing;
 mod contents;

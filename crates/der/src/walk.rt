@@ -10,7 +10,7 @@ use crate::order::may_follow;
 
 // What the walk finds. The places are starts: of the first faulty element (refusal 4); where none is faulty, of
 // the first SET out of order (refusal 5).
-#[derive(Drop)]
+#[derive(Clone, Copy)]
 pub enum Soundness {
     Sound,
     Unsound(usize),

@@ -1,5 +1,7 @@
 // The linter and the deck's writer for programs in C and Rust: include/dlozamife.h has the declarations. An answer is one
 // number (specs/Packing.antt).
+#![tactic(auto)]
+
 ghost use Rattle.std.specs.Prelude.{◌≡◌};
 ghost use Rattle.lint.specs.Values.{lint_values};
 ghost use Rattle.lint.specs.Answers.{room_of};

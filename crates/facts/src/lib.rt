@@ -1,12 +1,14 @@
 // What rules may look at: the fields of a certificate, its key, its extensions by slot, and of its issuer what counts. It is
 // read once. Every group of rules takes the same: the profile, the certificate's octets, these, and the issuer's octets.
+#![tactic(auto)]
+
 ghost use Rattle.std.specs.Prelude.{◌≡◌};
 ghost use Rattle.facts.specs.Kinds.{is_rsa, is_elliptic_curve};
 ghost use Rattle.facts.specs.Case.{facts_of};
 
 use certificate::{Certificate, Issuer, Key, KeyKind, SLOTS, Slot};
 
-#[derive(Drop)]
+#[derive(Clone, Copy)]
 pub struct Facts {
     pub fields: Certificate,
     pub key: Key,

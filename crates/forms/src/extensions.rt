@@ -7,7 +7,7 @@ use der::Head;
 use profiles::Profile;
 
 // What is known of an extension list: where it starts, and whether it has a repeated identifier at all.
-#[derive(Drop)]
+#[derive(Clone, Copy)]
 pub struct Repeats {
     pub from: usize,
     pub some: bool,

@@ -8,7 +8,7 @@ use locations::Method;
 use profiles::Profile;
 
 // What is asked of an item.
-#[derive(Drop)]
+#[derive(Clone, Copy)]
 pub enum Kind {
     // an attribute with this arc below 2.5.4 (113, 114, 116, 118, 120)
     Attribute(u8),

@@ -1,5 +1,7 @@
 // Document 01's forms of rules: "each", "one X", and whether there is one. What rules say of one item stands apart from
 // the loops that look at many; the loops know nothing of kinds.
+#![tactic(auto)]
+
 mod extensions;
 mod firsts;
 mod judged;

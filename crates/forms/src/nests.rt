@@ -4,7 +4,7 @@ ghost use Rattle.forms.specs.Lists.{holder_in};
 
 use der::Head;
 
-#[derive(Drop)]
+#[derive(Clone, Copy)]
 pub enum Nest {
     // the attributes of a SET
     Set,

@@ -9,7 +9,7 @@ use crate::named::is_dns_name;
 use der::Head;
 
 // What a name is as a host name.
-#[derive(Drop)]
+#[derive(Clone, Copy)]
 pub enum Host {
     Plain,
     Neither,

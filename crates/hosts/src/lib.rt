@@ -1,4 +1,6 @@
 // dNSNames, and whether they are host names. An element is given by its head, a list by where it starts and ends.
+#![tactic(auto)]
+
 mod hosts;
 mod named;
 

@@ -8,14 +8,14 @@ use der::Soundness;
 use profiles::{Asked, Profile};
 
 // What refusals 1 to 3 leave: a profile to go on for, or one of them.
-#[derive(Drop)]
+#[derive(Clone, Copy)]
 pub enum Admission {
     Admitted(Profile),
     Refused(Inadmissible),
 }
 
 // What refusals 1 to 6 leave: a profile to lint for, or a refusal.
-#[derive(Drop)]
+#[derive(Clone, Copy)]
 pub enum Judgement {
     Accepted(Profile),
     Refused(Refusal),

@@ -1,4 +1,6 @@
 // The linter: a certificate, its issuer's and a profile in, a refusal or the findings out.
+#![tactic(auto)]
+
 mod judging;
 mod linting;
 mod reasons;

@@ -14,7 +14,7 @@ use facts::Facts;
 use profiles::Profile;
 use refusals::{Values, unrefused};
 
-#[derive(Drop)]
+#[derive(Clone, Copy)]
 pub enum Answer {
     // so many findings
     Report(usize),

@@ -8,14 +8,14 @@ use refusals::{
     refused,
 };
 
-#[derive(Drop)]
+#[derive(Clone, Copy)]
 pub enum Side {
     Certificate,
     Issuer,
 }
 
 // What keeps a call from being looked at. The deck's writer gives these too.
-#[derive(Drop)]
+#[derive(Clone, Copy)]
 pub enum Inadmissible {
     // the certificate has 0 or over 8,192 octets
     CertificateLength,
@@ -25,7 +25,7 @@ pub enum Inadmissible {
     UnknownProfile,
 }
 
-#[derive(Drop)]
+#[derive(Clone, Copy)]
 pub enum Refusal {
     Inadmissible(Inadmissible),
     // not sound DER, at the first faulty element

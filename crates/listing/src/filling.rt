@@ -29,7 +29,7 @@ const ITEM: usize = 83 + FINDING * (MOST / WIDTH);
 pub const LISTING_SPACE: usize = 393216;
 
 // How far a listing has come: the block that is listed next, and how many records and lost blocks stand before it.
-#[derive(Drop)]
+#[derive(Clone, Copy)]
 pub struct Progress {
     pub position: usize,
     pub records: usize,
@@ -37,7 +37,7 @@ pub struct Progress {
 }
 
 // What a fill has put: the first `end` octets of the buffer. Unless that is all, the listing goes on at `next`.
-#[derive(Drop)]
+#[derive(Clone, Copy)]
 pub struct Filling {
     pub end: usize,
     pub next: Progress,

@@ -6,7 +6,7 @@ ghost use Rattle.locations.specs.Access.{method_identifier, is_method, uri_by, n
 use crate::uris::{is_http, is_uri};
 use der::Head;
 
-#[derive(Drop)]
+#[derive(Clone, Copy)]
 pub enum Method {
     Ocsp,
     CaIssuers,

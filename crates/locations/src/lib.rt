@@ -1,4 +1,6 @@
 // Where things are to be fetched: URIs, the entries of an authority information access, and CRL distribution points.
+#![tactic(auto)]
+
 mod access;
 mod points;
 mod uris;

@@ -1,5 +1,7 @@
 // The numbers that the contents of INTEGERs stand for, tested without being held whole. Contents are the octets of a
 // list from `body` to `end`.
+#![tactic(auto)]
+
 mod counting;
 mod exponent;
 mod leading;

@@ -7,7 +7,7 @@ ghost use Rattle.octets.specs.Workings.Same.{fold_of};
 use crate::reading::octet_past;
 
 // What two octets are held to.
-#[derive(Drop)]
+#[derive(Clone, Copy)]
 pub enum Letters {
     Exact,
     AnyCase,

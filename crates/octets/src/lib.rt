@@ -1,4 +1,6 @@
 // Octets by their place. Every function answers for every argument: past the end of the list an octet is 0.
+#![tactic(auto)]
+
 mod characters;
 mod comparing;
 mod copying;

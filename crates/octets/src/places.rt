@@ -4,7 +4,7 @@ ghost use Rattle.octets.specs.Places.{place_from, end_of};
 
 use crate::reading::minus;
 
-#[derive(Drop)]
+#[derive(Clone, Copy)]
 pub struct Place {
     pub start: usize,
     pub len: usize,

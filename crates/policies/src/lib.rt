@@ -1,4 +1,6 @@
 // Certificate policies and their qualifiers.
+#![tactic(auto)]
+
 mod policies;
 
 pub use policies::{forum_arc, is_federal, other_qualifier, qualifiers_of};

@@ -1,4 +1,6 @@
 // The primes below 752, and the test that none of them divides a modulus.
+#![tactic(auto)]
+
 mod dividing;
 mod table;
 mod words;

@@ -6,7 +6,7 @@ ghost use Rattle.profiles.specs.Extensions.{crit_if, criticality_of, is_miscriti
 use crate::fields::Profile;
 
 // The table's words: M, opt, no, other. An extension that is in no row is unlisted.
-#[derive(Drop)]
+#[derive(Clone, Copy)]
 pub enum Mark {
     Mandatory,
     Optional,
@@ -16,7 +16,7 @@ pub enum Mark {
 }
 
 // Whether an extension is to be critical.
-#[derive(Drop)]
+#[derive(Clone, Copy)]
 pub enum Criticality {
     Must,
     MustNot,

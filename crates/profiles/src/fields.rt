@@ -3,7 +3,7 @@ ghost use Rattle.std.specs.Prelude.{◌≡◌};
 ghost use Rattle.profiles.specs.Fields.{asked_of, limit_of, allows_attribute, takes_utf8, takes_curves};
 
 // 1 server, domain validation; 2 server, organization validation; 3 delegated OCSP responder; 4 subordinate CA.
-#[derive(Drop)]
+#[derive(Clone, Copy)]
 pub enum Profile {
     Domain,
     Organization,
@@ -12,7 +12,7 @@ pub enum Profile {
 }
 
 // What a profile's number asks for.
-#[derive(Drop)]
+#[derive(Clone, Copy)]
 pub enum Asked {
     For(Profile),
     Unknown,
@@ -31,7 +31,7 @@ pub fn profile_of(number: u8) -> Asked
 }
 
 // The longest validity: so many days, or so many years by the calendar.
-#[derive(Drop)]
+#[derive(Clone, Copy)]
 pub enum Limit {
     Days(u16),
     Years(u16),

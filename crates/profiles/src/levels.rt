@@ -4,7 +4,7 @@ ghost use Rattle.profiles.specs.Levels.{level_number};
 ghost use Rattle.profiles.specs.Judged.{level_of};
 
 // What a rule says of what it asks for: that it must be so, or that it should.
-#[derive(Drop)]
+#[derive(Clone, Copy)]
 pub enum Level {
     Must,
     Should,

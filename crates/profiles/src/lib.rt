@@ -1,5 +1,7 @@
 // The profiles, and what sets them apart: which rules they judge, and small tables of what they ask, so that a rule is
 // written once for all of them. And the level of each rule.
+#![tactic(auto)]
+
 mod extensions;
 mod fields;
 mod judged;

@@ -5,7 +5,7 @@ ghost use Rattle.reader.specs.Counting.{tally_of};
 
 use crate::finding::{Found, find};
 
-#[derive(Drop)]
+#[derive(Clone, Copy)]
 pub struct Counts {
     pub records: usize,
     pub lost: usize,

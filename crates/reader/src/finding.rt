@@ -4,7 +4,7 @@ ghost use Rattle.reader.specs.Runs.{block_at, from, is_part, are_parts, starts};
 ghost use Rattle.reader.specs.Finding.{found_at};
 
 // Why a block is lost.
-#[derive(Drop)]
+#[derive(Clone, Copy)]
 pub enum Loss {
     // under 512 octets, at the end
     Short,
@@ -13,7 +13,7 @@ pub enum Loss {
     Stray,
 }
 
-#[derive(Drop)]
+#[derive(Clone, Copy)]
 pub enum Found {
     // the record's number and its length
     Record(usize, usize),

@@ -1,5 +1,7 @@
 // The deck's reader: what stands at each block, record by record with the linter's answer or as its octets, and the
 // counts.
+#![tactic(auto)]
+
 mod counting;
 mod finding;
 mod gathering;

@@ -11,7 +11,7 @@ use crate::finding::{Found, Loss, find};
 use crate::gathering::gather;
 use lint::Answer;
 
-#[derive(Drop)]
+#[derive(Clone, Copy)]
 pub struct Record {
     pub number: usize,
     pub profile: u8,
@@ -19,7 +19,7 @@ pub struct Record {
     pub answer: Answer,
 }
 
-#[derive(Drop)]
+#[derive(Clone, Copy)]
 pub enum Item {
     Record(Record),
     Lost(Loss),

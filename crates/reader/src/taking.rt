@@ -11,7 +11,7 @@ use crate::gathering::gather;
 
 // How a record of that number lies in a buffer: the profile at 0, the certificate from 3 on, behind it to the end the
 // issuer.
-#[derive(Drop)]
+#[derive(Clone, Copy)]
 pub struct Layout {
     pub number: usize,
     // of the whole record
@@ -20,7 +20,7 @@ pub struct Layout {
     pub certificate: usize,
 }
 
-#[derive(Drop)]
+#[derive(Clone, Copy)]
 pub enum Taken {
     Record(Layout),
     // the buffer has fewer octets than the record

@@ -1,4 +1,6 @@
 // The paper's numbers: "Refusals and their order" (document 01), and the values that an answer has there.
+#![tactic(auto)]
+
 mod table;
 
 pub use table::{

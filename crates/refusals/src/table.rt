@@ -24,7 +24,7 @@ pub const ON_CERTIFICATE: usize = 1;
 
 pub const ON_ISSUER: usize = 2;
 
-#[derive(Drop)]
+#[derive(Clone, Copy)]
 pub struct Values {
     pub number: usize,
     pub side: usize,

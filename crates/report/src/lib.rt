@@ -1,4 +1,6 @@
 // The report: an entry for each finding, one behind the other in lent room.
+#![tactic(auto)]
+
 mod reading;
 mod sink;
 

@@ -12,7 +12,7 @@ use octets::Place;
 use profiles::Profile;
 
 // A finding: the rule, the place of the element that breaks it, and the number of the rule's level.
-#[derive(Drop)]
+#[derive(Clone, Copy)]
 pub struct Entry {
     pub rule: usize,
     pub place: Place,

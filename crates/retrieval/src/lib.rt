@@ -1,4 +1,6 @@
 // One side of the records of a number, out of a deck, as the DER that was written.
+#![tactic(auto)]
+
 ghost use Rattle.std.specs.Prelude.{◌≡◌, ◌+◌, ◌≤◌, length, take, drop};
 ghost use Rattle.blocks.specs.Record.{parts, certificate_length};
 ghost use Rattle.reader.specs.Runs.{from, record_from};
@@ -11,7 +13,7 @@ ghost use Rattle.retrieval.specs.Workings.Fetching.{PutOctets};
 use lint::Side;
 use reader::{Found, Taken};
 
-#[derive(Drop)]
+#[derive(Clone, Copy)]
 pub enum Fetched {
     // so many octets at the front of the buffer, and the position of the block behind the record
     Octets(usize, usize),

@@ -1,4 +1,6 @@
 // All rules, in the order of their numbers.
+#![tactic(auto)]
+
 ghost use Rattle.facts.specs.Case.{case_of};
 ghost use Rattle.report.specs.Rows.{Puts};
 ghost use Rattle.rules.specs.Rules.{all_rules};

@@ -1,5 +1,7 @@
 // Rules 301 to 363: which extensions there are, whether they are critical, and whether their values are of their
 // types (document 01, "Rules on extensions").
+#![tactic(auto)]
+
 mod identifiers;
 mod slots;
 

@@ -11,7 +11,7 @@ use certificate::{Certificate, SLOTS, Slot};
 use der::Head;
 use profiles::Profile;
 
-#[derive(Drop)]
+#[derive(Clone, Copy)]
 pub enum Question {
     // 300+s
     Missing,

@@ -1,4 +1,6 @@
 // Rules 101 to 111: version, serial number, algorithms, issuer name and validity (document 01, "Rules on fields"; document 02, CR 1 and CR 2).
+#![tactic(auto)]
+
 mod algorithms;
 mod period;
 mod version;

@@ -6,7 +6,7 @@ ghost use Rattle.rules_key.specs.Workings.Bits.{rsa_key_of};
 use der::Head;
 
 // Whether rule 204 is kept, and the two INTEGERs that rules 205 to 208 judge then.
-#[derive(Drop)]
+#[derive(Clone, Copy)]
 pub struct RsaKey {
     pub kept: bool,
     pub modulus: Head,

@@ -1,4 +1,6 @@
 // Rules 201 to 208: the key (document 01, "Rules on fields"; document 02, CR 1).
+#![tactic(auto)]
+
 mod algorithm;
 mod bits;
 mod parameters;

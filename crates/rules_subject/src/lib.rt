@@ -1,4 +1,6 @@
 // Rules 112 to 122: the subject's name (document 01, "Rules on fields"; document 02, CR 1).
+#![tactic(auto)]
+
 mod attributes;
 mod common_name;
 

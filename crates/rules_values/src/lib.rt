@@ -1,5 +1,7 @@
 // Rules 401 to 424: what the extensions' values say (document 01, "Rules on extensions"; document 02, CR 1). They are not
 // judged if the extension is missing or fails 340+s.
+#![tactic(auto)]
+
 mod access;
 mod authority;
 mod identifiers;

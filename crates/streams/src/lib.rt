@@ -1,4 +1,6 @@
 // What programs read and write by descriptors: a file to its end, the file that an argument names, standard output.
+#![tactic(auto)]
+
 mod reading;
 mod writing;
 

@@ -2,7 +2,7 @@
 ghost use Rattle.std.specs.Prelude.{length};
 ghost use Rattle.streams.specs.Reading.{Within};
 
-#[derive(Drop)]
+#[derive(Clone, Copy)]
 pub enum Loaded {
     // so many octets, at the front of the space
     Octets(usize),

@@ -1,5 +1,7 @@
 // The attributes of a subject name (AttributeTypeAndValue), and the SETs that hold them. What is asked here is asked of
 // one of them: rules 115, 117, 119 and 122 of an attribute, 121 of a SET.
+#![tactic(auto)]
+
 mod authorities;
 mod sets;
 mod types;

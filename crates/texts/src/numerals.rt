@@ -3,7 +3,7 @@ ghost use Rattle.std.specs.Prelude.{◌≡◌};
 ghost use Rattle.texts.specs.Numerals.{decimal_of};
 ghost use Rattle.texts.specs.Workings.Numerals.{appended};
 
-#[derive(Drop)]
+#[derive(Clone, Copy)]
 pub enum Numeral {
     Number(u32),
     // no digits, something besides, or a number past four octets

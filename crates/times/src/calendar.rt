@@ -3,7 +3,7 @@ ghost use Rattle.std.specs.Prelude.{◌≡◌, ◌+◌, ◌-◌, ◌*◌, ◌≤
 ghost use Rattle.times.specs.Calendar.{leap_year, month_length, before_month, before_year, seconds_of, date_ok};
 
 // A day and a second of it. The types are small, so that no count of days or seconds overflows, whatever the numbers.
-#[derive(Drop)]
+#[derive(Clone, Copy)]
 pub struct Date {
     pub year: u16,
     pub month: u8,

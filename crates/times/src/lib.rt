@@ -1,4 +1,6 @@
 // The times of a certificate: read from their octets, and compared by the calendar.
+#![tactic(auto)]
+
 mod anniversary;
 mod calendar;
 mod reading;

@@ -9,7 +9,7 @@ use crate::calendar::{Date, date_ok};
 use crate::validity::{Time, date_of};
 
 // A time, or contents that are none.
-#[derive(Drop)]
+#[derive(Clone, Copy)]
 pub enum Reading {
     Is(Time),
     Bad,

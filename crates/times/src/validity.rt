@@ -5,13 +5,13 @@ ghost use Rattle.times.specs.Validity.{date_of, moment_of, early_general, revers
 use crate::anniversary::anniversary;
 use crate::calendar::{Date, seconds};
 
-#[derive(Drop)]
+#[derive(Clone, Copy)]
 pub enum Time {
     Utc(Date),
     General(Date),
 }
 
-#[derive(Drop)]
+#[derive(Clone, Copy)]
 pub struct Validity {
     pub not_before: Time,
     pub not_after: Time,

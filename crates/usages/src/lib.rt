@@ -1,4 +1,6 @@
 // What a key may be used for: the bits of key usage, and the purposes of extended key usage.
+#![tactic(auto)]
+
 mod purposes;
 mod usage;
 

@@ -1,4 +1,6 @@
 // The deck's writer: a record in, its blocks or a refusal out.
+#![tactic(auto)]
+
 mod reasons;
 mod writing;
 

@@ -5,7 +5,7 @@ ghost use Rattle.writer.specs.Values.{not_written_values};
 use lint::Inadmissible;
 use refusals::{ON_NEITHER, RECORD_NUMBER_ZERO, TOO_LITTLE_ROOM, Values, refused};
 
-#[derive(Drop)]
+#[derive(Clone, Copy)]
 pub enum NotWritten {
     // as the linter has it
     Inadmissible(Inadmissible),

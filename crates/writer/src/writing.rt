@@ -11,7 +11,7 @@ use crate::reasons::{NotWritten, not_written_values};
 use lint::Admission;
 use refusals::{Values, unrefused};
 
-#[derive(Drop)]
+#[derive(Clone, Copy)]
 pub enum Placing {
     // so many blocks
     Blocks(usize),
