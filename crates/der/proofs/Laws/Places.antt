@@ -51,9 +51,9 @@ module _ (s : List ℕ) where
         ends = le_trans (head_forward s at end l).1 e;
       }
 
-  chain_lies : {at end : ℕ} {hs : List Head} → end ≤ length s → Chain s end at hs → (h : Head) → Memᴰ h hs → Inside h
-  chain_lies e done h i = absurd (Memᴰ.not_nil i)
-  chain_lies {end = end} e (next {at = at} l r) h i =
+  chain_lies : {end at : ℕ} {hs : List Head} → end ≤ length s → Chain s end at hs → (h : Head) → Memᴰ h hs → Inside h
+  chain_lies e done h i = absurd (Memᴰ.not-nil i)
+  chain_lies {end = end} {at = at} e (next l r) h i =
       ⊎_elim (λ (q : h ≡ head_of s at end). subst Inside (sym q) (head_lies at end l e)) (λ i. chain_lies e r h i) (Memᴰ.cases_cons i)
 
   held_lies : (holder h : Head) → Inside holder → Memᴰ h (held_by s holder) → Inside h
@@ -61,7 +61,7 @@ module _ (s : List ℕ) where
     where
       go : (b : Bool) → Memᴰ h (cond b (members_in s holder) []) → Inside h
       go true i = chain_lies k.ends (children_chain s holder.body holder.end k.forward) h i
-      go false i = absurd (Memᴰ.not_nil i)
+      go false i = absurd (Memᴰ.not-nil i)
 
   element_lies : 0 < length s → {h : Head} → SideElement s h → Inside h
   element_lies l (outer e) = subst Inside (sym e) (head_lies 0 (length s) l (le_refl (length s)))

@@ -110,7 +110,7 @@ module _ (test : Head → Bool) (end : ℕ) where
 -- ---- of the elements of a stretch
 
 chain_full : {s : List ℕ} {end at : ℕ} {hs : List Head} → Chain s end at hs → Full hs
-chain_full done h m = absurd (Memᴰ.not_nil m)
+chain_full done h m = absurd (Memᴰ.not-nil m)
 chain_full {s} {end} (next {at = at} {hs = hs} l c) h m =
     ⊎_elim (λ (q : h ≡ head_of s at end). let f = head_forward s at end l in rw (q, head_start s at end) f.0)
     (λ (j : Memᴰ h hs). chain_full c h j) (Memᴰ.cases_cons m)
@@ -122,7 +122,7 @@ children_full s at end = go (leb at end) refl
     go true e = chain_full (children_chain s at end (leb-true at end e))
     go false e =
         let l = leb-false at end e in
-        rw (children_done s at end (omega (arith, l))) (λ h m. absurd (Memᴰ.not_nil m))
+        rw (children_done s at end (omega (arith, l))) (λ h m. absurd (Memᴰ.not-nil m))
 
 pub any_by_first : (test : Head → Bool) (s : List ℕ) (at end : ℕ)
     → any_of test (children_of s at end) ≡ not (is_empty (first_of test end (children_of s at end)))

@@ -26,7 +26,7 @@ use Rattle.certificate.proofs.Laws.Inside.{between_head, between_wider, certific
 use Rattle.report.specs.Order.{In}
 
 all_in : {from to : ℕ} {hs : List Head} {h : Head} → AllBetween from to hs → In h hs → Between from to h
-all_in none m = absurd (Memᴰ.not_nil m)
+all_in none m = absurd (Memᴰ.not-nil m)
 all_in {from} {to} {h = h} (more {h = g} b bs) m = ⊎_elim (λ (e : h ≡ g). subst (Between from to) (sym e) b) (all_in bs) (Memᴰ.cases_cons m)
 
 module _ (s : List ℕ) where
@@ -50,7 +50,7 @@ module _ (s : List ℕ) where
     where
       go : (b : Bool) → In h (cond b (children_of s holder.body holder.end) []) → LiesIn s h
       go true m = all_in (members_inside s holder k) m
-      go false m = absurd (Memᴰ.not_nil m)
+      go false m = absurd (Memᴰ.not-nil m)
 
   pub element_inside : {h : Head} → Element s h → LiesIn s h
   element_inside (outer outermost) = between_head s 0 (length s) (omega arith)

@@ -63,7 +63,7 @@ module _ (f : Form) (s : List ℕ) where
 
   pub many_fit : (o : ℕ) (hs : List Head) → follows (many f done) s o hs ≡ Fits → AllFit hs
   unfolding follows
-  many_fit o [] e h i = absurd (Memᴰ.not_nil i)
+  many_fit o [] e h i = absurd (Memᴰ.not-nil i)
   many_fit o (x ∷ xs) e h i = go (fits f s x) refl e (many_fit o xs)
     where
       rest : Verdict

@@ -47,7 +47,7 @@ use Rattle.report.specs.Order.{In}
 use Rattle.facts.proofs.Laws.Fields.{field_elements, in_extended}
 
 named_in : {s : List ℕ} {h : Head} {hs : List Head} → AllNamed s hs → In h hs → ExtensionNamed s h
-named_in none i = absurd (Memᴰ.not_nil i)
+named_in none i = absurd (Memᴰ.not-nil i)
 named_in {s} {h} (more {h = x} {hs = xs} k ks) i =
     ⊎_elim (λ (q : h ≡ x). subst (λ (y : Head). ExtensionNamed s y) (sym q) k) (λ (j : In h xs). named_in ks j) (Memᴰ.cases_cons i)
 
@@ -104,7 +104,7 @@ module _ (s : List ℕ) (e : certificate_verdict s ≡ Fits) where
   in_list h i = go list_is
     where
       go : Listed → Element s h
-      go (no_list f n) = absurd (Memᴰ.not_nil (among (sym n) i))
+      go (no_list f n) = absurd (Memᴰ.not-nil (among (sym n) i))
       go (one_list k m) = m h i
 
   value_element : (h : Head) → In h (extensions_of s) → Element s (extension_of s h).value

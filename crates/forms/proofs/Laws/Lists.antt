@@ -81,7 +81,7 @@ module _ (nest : Nest) (test : Head → Bool) (s : List ℕ) (at end : ℕ) wher
   -- items have an octet at least
   members_full : (hs : List Head) → Full (members_of_each s hs)
   unfolding members_of_each
-  members_full [] g m = absurd (mathlib.Core.List.Memᴰ.not_nil m)
+  members_full [] g m = absurd (mathlib.Core.List.Memᴰ.not-nil m)
   members_full (h ∷ hs) g m =
       ⊎_elim (children_full s h.body h.end g) (members_full hs g) (mathlib.Core.List.Memᴰ.append_cases (children_of s h.body h.end) m)
 
@@ -94,7 +94,7 @@ module _ (nest : Nest) (test : Head → Bool) (s : List ℕ) (at end : ℕ) wher
 members_each : (s : List ℕ) (part : Head → Head) (hs : List Head) (h : Head) → Memᴰ h (members_of_each s (map part hs))
     → (x : Head) × Memᴰ x hs × Memᴰ h (members_in s (part x))
 unfolding members_of_each
-members_each s part [] h m = absurd (mathlib.Core.List.Memᴰ.not_nil m)
+members_each s part [] h m = absurd (mathlib.Core.List.Memᴰ.not-nil m)
 members_each s part (x ∷ xs) h m =
     ⊎_elim (λ (k : Memᴰ h (members_in s (part x))). (x, mathlib.Core.List.Memᴰ.head refl, k))
     (λ (k : Memᴰ h (members_of_each s (map part xs))). let r = members_each s part xs h k in (r.0, mathlib.Core.List.Memᴰ.tail r.1, r.2))
@@ -129,7 +129,7 @@ module _
 
   chain_between : {at : ℕ} {hs : List Head} → Chain s end at hs → LieBetween at end (members_of_each s (map part hs))
   unfolding members_of_each
-  chain_between done = λ h m. absurd (mathlib.Core.List.Memᴰ.not_nil m)
+  chain_between done = λ h m. absurd (mathlib.Core.List.Memᴰ.not-nil m)
   chain_between (next {at = at} {hs = hs} l r) =
       let f = head_forward s at end l in
       let k : at ≤ (head_of s at end).end = omega arith in

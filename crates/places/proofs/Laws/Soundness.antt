@@ -30,7 +30,7 @@ record Whole (s : List ℕ) (h : Head) : Type 0 where
 
 each_whole : (s : List ℕ) (levels : ℕ) (hs : List Head) → soundness s (joined (elements_of s levels) hs) ≡ Sound
     → (h : Head) → In h hs → Whole s h
-each_whole s levels [] e h i = absurd (Memᴰ.not_nil i)
+each_whole s levels [] e h i = absurd (Memᴰ.not-nil i)
 each_whole s levels (x ∷ hs) e h i =
     let p = then_parts _ _ (sym (soundness_join s (elements_of s levels x) (joined (elements_of s levels) hs)) ∙ e) in
     ⊎_elim (λ (q : h ≡ x). rw q (record { levels = levels; is = p.0 })) (each_whole s levels hs p.1 h) (Memᴰ.cases_cons i)
@@ -40,7 +40,7 @@ held_whole s holder w h = go (constructed holder.tag) refl
   where
     go : (b : Bool) → constructed holder.tag ≡ b → In h (cond b (members_in s holder) []) → Whole s h
     go true c i = each_whole s (w.levels - 1) (members_in s holder) (sound_members s w.levels holder w.is c) h i
-    go false c i = absurd (Memᴰ.not_nil i)
+    go false c i = absurd (Memᴰ.not-nil i)
 
 module _ (s : List ℕ) (e : der_soundness s ≡ Sound) where
   whole : {h : Head} → Element s h → Whole s h

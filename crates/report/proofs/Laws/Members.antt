@@ -22,18 +22,18 @@ use Rattle.der.specs.declared.header.Head.{Head}
 
 pub only_in : (judged : Bool) (es : List Entry) (e : Entry) → In e (only_if judged es) ↔ ((judged ≡ true) × In e es)
 only_in true es e = (λ m. (refl, m), λ p. p.1)
-only_in false es e = (λ m. absurd (Memᴰ.not_nil m), λ p. absurd (false≢true p.0))
+only_in false es e = (λ m. absurd (Memᴰ.not-nil m), λ p. absurd (false≢true p.0))
 
 pub at_in : (bad : Bool) (h g : Head) → In g (broken_at bad h) ↔ ((bad ≡ true) × (g ≡ h))
 unfolding broken_at
 at_in true h g = (λ m. (refl, Memᴰ.eq_of_singleton m), λ p. Memᴰ.head p.1)
-at_in false h g = (λ m. absurd (Memᴰ.not_nil m), λ p. absurd (false≢true p.0))
+at_in false h g = (λ m. absurd (Memᴰ.not-nil m), λ p. absurd (false≢true p.0))
 
 -- the items that a test picks
 module _ (test : Head → Bool) where
   picked : {g : Head} (hs : List Head) → In g (filter test hs) → In g hs × (test g ≡ true)
   unfolding filter
-  picked [] m = absurd (Memᴰ.not_nil m)
+  picked [] m = absurd (Memᴰ.not-nil m)
   picked {g} (h ∷ hs) m = go (picked hs) (test h) refl m
     where
       go : (In g (filter test hs) → In g hs × (test g ≡ true)) → (b : Bool) → test h ≡ b
@@ -68,7 +68,7 @@ module _ (rule : ℕ) where
   map_in (Memᴰ.tail m) q = Memᴰ.tail (map_in m q)
 
   pub from_map : {e : Entry} (hs : List Head) → In e (map (entry_at rule) hs) → (h : Head) × In h hs × (e ≡ entry_at rule h)
-  from_map [] m = absurd (Memᴰ.not_nil m)
+  from_map [] m = absurd (Memᴰ.not-nil m)
   from_map {e} (h ∷ hs) m = go (from_map hs) (Memᴰ.cases_cons m)
     where
       go : (In e (map (entry_at rule) hs) → (g : Head) × In g hs × (e ≡ entry_at rule g))
@@ -86,7 +86,7 @@ module _ (is_x : Head → Bool) where
   module _ (name : Head) where
     reported : {h : Head} (hs : List Head) → In h (ones_of name (filter is_x hs)) → Lacking is_x name hs h ⊎ Further is_x h hs
     unfolding filter ones_of
-    reported [] m = inl (record { none = λ x k. absurd (Memᴰ.not_nil k); is = Memᴰ.eq_of_singleton m })
+    reported [] m = inl (record { none = λ x k. absurd (Memᴰ.not-nil k); is = Memᴰ.eq_of_singleton m })
     reported {h} (x ∷ xs) m = go (reported xs) (is_x x) refl m
       where
         behind : {g : Head} → is_x x ≡ false → ((g : Head) → In g xs → is_x g ≡ false) → In g (x ∷ xs) → is_x g ≡ false

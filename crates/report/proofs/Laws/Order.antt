@@ -33,7 +33,7 @@ use Rattle.der.proofs.Laws.Walking.{children_chain}
 -- ---- lists of entries
 
 pub none_ordered : (from to : ℕ) → from ≤ to → Ordered from to []
-none_ordered from to l = record { span = l; rules = λ e m. absurd (Memᴰ.not_nil m); rising = no_entries }
+none_ordered from to l = record { span = l; rules = λ e m. absurd (Memᴰ.not-nil m); rising = no_entries }
 
 rising_join : {es fs : List Entry} → ((e f : Entry) → In e es → In f fs → Before e f) → RisingEntries es → RisingEntries fs → RisingEntries (es ++ fs)
 rising_join f no_entries r = r
@@ -82,7 +82,7 @@ between_join gs hs f g h m = ⊎_elim (f h) (g h) (Memᴰ.append_cases gs m)
 -- the elements of a stretch
 module _ (s : List ℕ) (end : ℕ) where
   chain_between : {at : ℕ} {hs : List Head} → Chain s end at hs → LieBetween at end hs
-  chain_between done h m = absurd (Memᴰ.not_nil m)
+  chain_between done h m = absurd (Memᴰ.not-nil m)
   chain_between (next {at = at} {hs = hs} l r) h m = ⊎_elim here (λ k. there (chain_between r h k)) (Memᴰ.cases_cons m)
     where
       here : h ≡ head_of s at end → (at ≤ h.at) × (h.at < h.end) × (h.end ≤ end)
@@ -107,7 +107,7 @@ module _ (s : List ℕ) (end : ℕ) where
         go true t = chain_between (children_chain s at end (leb-true at end t))
         go false t =
             let l = leb-false at end t in
-            rw (children_done s at end (omega arith)) (λ h m. absurd (Memᴰ.not_nil m))
+            rw (children_done s at end (omega arith)) (λ h m. absurd (Memᴰ.not-nil m))
 
     pub children_apart : Apart (children_of s at end)
     children_apart = go (leb at end) refl

@@ -159,13 +159,13 @@ up_filter test (more_items {h = h} {hs = hs} l f r) = go (test h) (up_filter tes
 
 module _ {P : Head → Type 0} where
   pub none_ok : {ps : List ℕ} (rule : ℕ) → RowOk P (rule for ps ⦂ [])
-  none_ok rule = record { up = no_heads; all = λ g m. absurd (Memᴰ.not_nil m) }
+  none_ok rule = record { up = no_heads; all = λ g m. absurd (Memᴰ.not-nil m) }
 
   pub at_ok : {ps : List ℕ} (rule : ℕ) (bad : Bool) (h : Head) → (bad ≡ true → P h) → RowOk P (rule for ps ⦂ broken_at bad h)
   unfolding broken_at
   at_ok rule true h k =
       record {
-        up = more_heads (λ g m. absurd (Memᴰ.not_nil m)) no_heads;
+        up = more_heads (λ g m. absurd (Memᴰ.not-nil m)) no_heads;
         all = λ g m. subst P (sym (Memᴰ.eq_of_singleton m)) (k refl);
       }
   at_ok rule false h k = none_ok rule
@@ -246,7 +246,7 @@ in_row p r e h b = (only_in (judged_by p r.profiles) (map (entry_at r.rule) r.br
 
 said : (p : Profile) (rs : List Row) (e : Entry) → In e (findings_of p rs) → InRows p rs e
 unfolding findings_of
-said p [] e m = absurd (Memᴰ.not_nil m)
+said p [] e m = absurd (Memᴰ.not-nil m)
 said p (r ∷ rs) e m =
     ⊎_elim (λ (k : In e (entries_of p r)). (r, Memᴰ.head refl, row_in p r e k))
     (λ (k : In e (findings_of p rs)). let x = said p rs e k in (x.0, Memᴰ.tail x.1, x.2))
@@ -263,7 +263,7 @@ rows_in p rs e = (said p rs e, λ x. found p e x.1 (in_row p x.0 e x.2.0 x.2.1))
 -- ---- where entries are
 
 row_of : {P : Head → Type 0} {rs : List Row} {r : Row} → RowsOk P rs → In r rs → RowOk P r
-row_of no_rows m = absurd (Memᴰ.not_nil m)
+row_of no_rows m = absurd (Memᴰ.not-nil m)
 row_of {P} {r = r} (more_rows {r = q} x xs) m = ⊎_elim (λ (e : r ≡ q). subst (RowOk P) (sym e) x) (row_of xs) (Memᴰ.cases_cons m)
 
 pub rows_at : {P : Head → Type 0} (p : Profile) {rs : List Row} → RowsOk P rs → (e : Entry) → In e (findings_of p rs)
@@ -292,7 +292,7 @@ module _ (p : Profile) where
   broken_none rs e r m j [] q = refl
   broken_none rs e r m j (h ∷ hs) q =
       let b : BrokenIn p (entry_at r.rule h) r h = record { judged = j; among = rw q (Memᴰ.head refl); entry = refl } in
-      absurd (Memᴰ.not_nil (subst (λ (es : List Entry). In (entry_at r.rule h) es) e ((rows_in p rs (entry_at r.rule h)).1 (r, m, (h, b)))))
+      absurd (Memᴰ.not-nil (subst (λ (es : List Entry). In (entry_at r.rule h) es) e ((rows_in p rs (entry_at r.rule h)).1 (r, m, (h, b)))))
 
   row_none : (r : Row) → (judged_by p r.profiles ≡ true → r.broken ≡ []) → entries_of p r ≡ []
   unfolding entries_of

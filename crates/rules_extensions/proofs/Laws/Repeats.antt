@@ -31,7 +31,7 @@ use Rattle.report.specs.Order.{In}
 -- where none of a list passes a test, each one fails it
 none_passes : (test : Head → Bool) (hs : List Head) → any_of test hs ≡ false → (h : Head) → In h hs → test h ≡ false
 unfolding any_of
-none_passes test [] e h i = absurd (Memᴰ.not_nil i)
+none_passes test [] e h i = absurd (Memᴰ.not-nil i)
 none_passes test (x ∷ xs) e h i = go (test x) refl e (none_passes test xs)
   where
     go : (b : Bool) → test x ≡ b → (b || any_of test xs) ≡ false → (any_of test xs ≡ false → (g : Head) → In g xs → test g ≡ false) → test h ≡ false

@@ -52,7 +52,7 @@ full_names_of s point k = go (has_full_name s point) refl
         let inner = eqb-true (first_in s name).tag 160 (and_r (eqb name.tag 160) (eqb (first_in s name).tag 160) t) in
         let names = members_by s name (ap constructed outer) (k name (first_member s point outer)) in
         members_by s (first_in s name) (ap constructed inner) (names (first_in s name) (first_member s name inner))
-    go false t = λ h i. absurd (Memᴰ.not_nil (among (sym (children_done s point.end point.end (le_refl point.end))) i))
+    go false t = λ h i. absurd (Memᴰ.not-nil (among (sym (children_done s point.end point.end (le_refl point.end))) i))
 
 -- ---- where they lie
 

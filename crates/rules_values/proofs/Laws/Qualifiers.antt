@@ -43,7 +43,7 @@ module _ (s : List ℕ) (policy : Head) (e : fits policy_information s policy �
   by_members x [] absent is h i =
       let end = policy.end in
       let none : qualifiers_of s policy ≡ missing end = second_none s policy x is in
-      absurd (Memᴰ.not_nil (among (sym ((λ j. members_in s (none j)) ∙ children_done s end end (le_refl end))) i))
+      absurd (Memᴰ.not-nil (among (sym ((λ j. members_in s (none j)) ∙ children_done s end end (le_refl end))) i))
   by_members x (g ∷ []) (present f) is h i =
       let second : qualifiers_of s policy ≡ g = second_is s policy x g [] is in
       members_of_lem 0x30 _ s g refl refl f (in_policy g (among is (behind here))) h (among (sym (ap (members_in s) second)) i)

@@ -1,0 +1,14 @@
+-- `der::contents::oid_ok` meets its contract. The invariant: the answer is that of the octets from the kth on. Assumes nothing.
+use mathlib.Core.Path.{◌≡◌, sym, ◌∙◌}
+use Prim.Native.Nat.{◌+◌, ◌-◌}
+use native.Mathlib.Omega.{arith}
+use Rattle.der.specs.Contents.{oid_ok, arcs_ok}
+use Rattle.octets.specs.Octets.{octets_from}
+use Rattle.der.proofs.Laws.Contents.{oid_none, oid_some, arcs_bad, arcs_good, arcs_done}
+use Rattle.der.proofs.contents.oid_ok.Given as goal
+
+abbrev pub invariant-loop-k : goal.invariant-loop-k
+invariant-loop-k l = oid_ok (octets_from l.s l.body l.n) ≡ arcs_ok l.fresh (octets_from l.s (l.body + l.k) (l.n - l.k))
+
+abbrev pub decreases-loop-k : goal.decreases-loop-k
+decreases-loop-k l = l.n - l.k

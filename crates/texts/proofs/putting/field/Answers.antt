@@ -1,0 +1,7 @@
+-- `texts::putting::field` meets its contract. Assumes nothing.
+use borrow.Author.Rules.{rules}
+use Rattle.texts.proofs.Laws.Putting.{◌⨾◌}
+use Rattle.texts.proofs.putting.field.Goals as goal
+
+pub returns : goal.returns
+returns c = c.word-m.ensures ⨾ c.decimal.ensures
