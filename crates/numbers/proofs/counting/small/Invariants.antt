@@ -1,0 +1,16 @@
+-- `numbers::counting::small` meets its contract. Assumes nothing.
+use mathlib.Core.Path.{◌≡◌, refl, sym, ◌∙◌}
+use Prim.Native.Nat.{◌-◌, ◌^◌, ◌≤◌, min}
+use native.Mathlib.Omega.{arith}
+use borrow.Author.Rules.{rules}
+use Rattle.numbers.specs.Numbers.{number}
+use Rattle.octets.specs.Numbers.{number_from}
+use Rattle.octets.specs.Octets.{octets_from}
+use Rattle.numbers.proofs.Laws.Small.{small_step, small_end}
+use Rattle.numbers.proofs.counting.small.Given as goal
+
+abbrev pub invariant-loop-i : goal.invariant-loop-i
+invariant-loop-i l = (min (number l.s l.body l.end) (2 ^ 32) ≡ min (number_from l.n (octets_from l.s l.i (l.end - l.i))) (2 ^ 32)) × (l.n ≤ 2 ^ 32)
+
+abbrev pub decreases-loop-i : goal.decreases-loop-i
+decreases-loop-i l = l.end - l.i

@@ -1,0 +1,15 @@
+-- `profiles::extensions::mark_of` meets its contract: an arm a profile. Assumes nothing.
+use borrow.Author.Rules.{rules}
+use Rattle.profiles.proofs.extensions.mark_of.Goals as goal
+
+pub returns-in-Domain : goal.returns-in-Domain
+returns-in-Domain c = rw c.in-Domain.is c.server_mark.ensures
+
+pub returns-in-Organization : goal.returns-in-Organization
+returns-in-Organization c = rw c.in-Organization.is c.server_mark-in-Organization.ensures
+
+pub returns-in-Responder : goal.returns-in-Responder
+returns-in-Responder c = rw c.in-Responder.is c.responder_mark.ensures
+
+pub returns-in-Subordinate : goal.returns-in-Subordinate
+returns-in-Subordinate c = rw c.in-Subordinate.is c.subordinate_mark.ensures

@@ -1,0 +1,8 @@
+-- `times::anniversary::yearly_day` meets its contract. Assumes nothing.
+use Rattle.times.proofs.anniversary.yearly_day.Goals as goal
+
+pub returns-then-d : goal.returns-then-d
+returns-then-d c = rw c.if-d.true
+
+pub returns-else-d : goal.returns-else-d
+returns-else-d c = rw c.if-d.false
