@@ -252,7 +252,7 @@ said p (r ∷ rs) e m =
     (λ (k : In e (findings_of p rs)). let x = said p rs e k in (x.0, Memᴰ.tail x.1, x.2))
     (Memᴰ.append_cases (entries_of p r) m)
 
-found : (p : Profile) {rs : List Row} {r : Row} (e : Entry) → In r rs → In e (entries_of p r) → In e (findings_of p rs)
+found : (p : Profile) {r : Row} {rs : List Row} (e : Entry) → In r rs → In e (entries_of p r) → In e (findings_of p rs)
 unfolding findings_of
 found p e (Memᴰ.head {x = x} {xs = xs} q) m = Memᴰ.append_left (findings_of p xs) (subst (λ (y : Row). In e (entries_of p y)) q m)
 found p e (Memᴰ.tail {x = x} k) m = Memᴰ.append_right (entries_of p x) (found p e k m)
