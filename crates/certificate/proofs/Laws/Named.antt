@@ -97,6 +97,7 @@ module _ (s : List ℕ) (end : ℕ) where
       → Stands s end (past tag s h end) rest
   stands_optional f tag h [] rest fit other absent k = stands_still tag h rest (other h k) k
   stands_optional f tag h (x ∷ []) rest fit other (present e) k = stands_past tag h x rest (fit x e) k
+  stands_optional f tag h (x ∷ (_ ∷ _)) rest fit other x9 k = elim x9 [ ]
 
   -- what stands there has the optional field's tag, or the tag of what follows: so not a third one
   optional_other : (f : Form) (tag third : ℕ) (front rest : List Head) → ((x : Head) → fits f s x ≡ Fits → x.tag ≡ tag) → (tag ≡ third → ⊥)
@@ -105,6 +106,7 @@ module _ (s : List ℕ) (end : ℕ) where
   optional_other f tag third [] rest fit apart other absent x k t = other x k t
   optional_other f tag third (y ∷ []) rest fit apart other (present e) x k t =
       apart (sym (fit y e) ∙ (ap (λ (h : Head). h.tag) (sym (stands_here x y rest k)) ∙ t))
+  optional_other f tag third (y ∷ (_ ∷ _)) rest fit apart other x13 x k t = elim x13 [ ]
 
 -- ---- times
 
@@ -167,6 +169,7 @@ extensions_named s end x (h ∷ []) (present e) k =
     let alone : children_of s h.body h.end ≡ a.first ∷ [] = cc (a.is, d) in
     let first = (children_first s h.body h.end a.first [] alone).is in
     rw (eq-eqb x.tag 0xA3 tag, here) (listed {h = h} (cc (alone, first)) (rw first a.fit))
+extensions_named s end x (h ∷ (_ ∷ _)) x7 k = elim x7 [ ]
 
 -- ---- all fields
 
@@ -244,6 +247,7 @@ module _ (s : List ℕ) (e : certificate_verdict s ≡ Fits) where
       go : (hs : List Head) → Optional (explicit 3 extensions) s hs → (x : Head) → Stands s end x hs → x.tag ≡ third → ⊥
       go [] absent x k t = some (sym (stands_none s end x k) ∙ t)
       go (h ∷ []) (present f) x k t = apart (sym (fit_tag 0xA3 _ s h refl f) ∙ (ap (λ (y : Head). y.tag) (sym (stands_here s end x h [] k)) ∙ t))
+      go (h ∷ (_ ∷ _)) x10 x k t = elim x10 [ ]
 
   extended_stands : Stands s end (extended_after s (key_in s (tbs_of s)) end) fields.extended
   extended_stands =
@@ -273,6 +277,7 @@ module _ (s : List ℕ) (e : certificate_verdict s ≡ Fits) where
           → VersionNamed (version_in s (tbs_of s)) (serial_in s (tbs_of s)) hs
       go [] absent k = unwritten (stands_here s end _ _ _ k ∙ sym serial_named)
       go (h ∷ []) (present f) k = written (stands_here s end _ _ _ k)
+      go (h ∷ (_ ∷ _)) x6 k = elim x6 [ ]
 
   times_are : TimesNamed s (period_in s (tbs_of s))
   times_are = times_named s (period_in s (tbs_of s)) (rw period_named fields.period_fits)

@@ -45,6 +45,7 @@ critical_named s end second value [] absent v k =
 critical_named s end second value (b ∷ []) (present f) v k =
     let one = tag_of second b 0x01 (stands_here s end second b (value ∷ []) k) (fit_tag 0x01 _ s b refl f) in
     rw one marked
+critical_named s end second value (b ∷ (_ ∷ _)) x7 v k = elim x7 [ ]
 
 pub extension_named : (s : List ℕ) (h : Head) → fits extension s h ≡ Fits → ExtensionNamed s h
 unfolding extension extension_of
@@ -99,6 +100,7 @@ parameters_named : (s : List ℕ) (end : ℕ) (parameters : Head) (extra : List 
     → Stands s end parameters extra → ParametersNamed parameters extra
 parameters_named s end parameters [] f absent k = lacking (stands_unsound s end parameters k)
 parameters_named s end parameters (h ∷ []) f (present e) k = given (stands_here s end parameters h [] k)
+parameters_named s end parameters (h ∷ (_ ∷ _)) f x6 k = elim x6 [ ]
 
 pub key_named : (s : List ℕ) (key : Head) → fits subject_public_key_info s key ≡ Fits → KeyNamed s key
 unfolding subject_public_key_info algorithm_identifier key_of
@@ -143,3 +145,4 @@ module _ (s : List ℕ) (e : certificate_verdict s ≡ Fits) where
           → AllNamed s (children_of s (certificate_of s).extensions.body (certificate_of s).extensions.end)
       go [] (without m) = rw (m, children_done s (certificate_of s).tbs.end (certificate_of s).tbs.end (omega arith)) none
       go (h ∷ []) (listed k f) = list_named s (certificate_of s).extensions f
+      go (h ∷ (_ ∷ _)) x5 = elim x5 [ ]

@@ -1,0 +1,12 @@
+-- `certificate::fields::time_in` meets its contract. Assumes nothing.
+use mathlib.Core.Path.{refl, ap, ◌∙◌}
+use Rattle.certificate.specs.Fields.{time_is, time_in}
+use Rattle.times.specs.Reads.{time_of}
+use Rattle.certificate.proofs.Laws.Members.{contents_read}
+use Rattle.certificate.proofs.fields.time_in.Goals as goal
+
+pub returns : goal.returns
+unfolding time_in
+returns c = 
+    let a = c.args in
+    c.time_is.ensures ∙ ap time_is (c.read_time.ensures ∙ ap (time_of a.h.tag) (contents_read a.s.now a.h a.h _ refl c.minus.ensures))

@@ -1,0 +1,6 @@
+-- `certificate::fields::time_is` meets its contract. Assumes nothing.
+use borrow.Author.Rules.{rules}
+use Rattle.certificate.proofs.fields.time_is.Goals as goal
+
+pub returns-in-Bad : goal.returns-in-Bad
+returns-in-Bad c = rw c.in-Bad.is
