@@ -1,7 +1,5 @@
 use mathlib.Core.Path.{◌≡◌, refl, ap, ◌∙◌}
-use Prim.Native.Nat.{◌-◌, ◌*◌, ◌≤◌}
 use native.Mathlib.Omega.{arith}
-use borrow.Author.Rules.{rules}
 use Rattle.times.specs.Calendar.{before_month}
 use Rattle.times.proofs.Laws.Calendar.{month_next}
 use Rattle.times.proofs.calendar.before_month.Goals as goal

@@ -1,11 +1,5 @@
-use mathlib.Core.Path.{◌≡◌, sym, ◌∙◌}
-use Prim.Native.Nat.{◌-◌}
+use mathlib.Core.Path.{sym, ◌∙◌}
 use native.Mathlib.Nat.{sub-zero}
-use native.Mathlib.Omega.{arith}
-use borrow.Author.Rules.{rules}
-use borrow.Author.Tests.{not-true, not-false}
-use Rattle.times.specs.Reads.{digits_first}
-use Rattle.octets.specs.Characters.{are_digits}
 use Rattle.octets.specs.Octets.{octets_from}
 use Rattle.times.proofs.Laws.Reads.{digits_good, digits_bad, digits_done}
 use Rattle.times.proofs.reading.digits_first.Goals as goal

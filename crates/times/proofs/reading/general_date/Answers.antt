@@ -3,7 +3,6 @@ use mathlib.Core.Path.{ap₂, ◌∙◌}
 use mathlib.Core.List.{List}
 use Prim.Native.Nat.{ℕ, ◌+◌, ◌*◌}
 use native.Mathlib.Omega.{arith}
-use borrow.Author.Rules.{rules}
 use Rattle.times.specs.Reads.{date_at}
 use Rattle.octets.specs.Octets.{octets_from}
 use Rattle.times.proofs.Laws.Reads.{digit_at}

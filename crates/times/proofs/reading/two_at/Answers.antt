@@ -1,6 +1,5 @@
 -- `times::reading::two_at` meets its contract. Assumes nothing.
 use native.Mathlib.Omega.{arith}
-use borrow.Author.Rules.{rules}
 use Rattle.octets.specs.Octets.{octets_from}
 use Rattle.times.proofs.Laws.Reads.{two_law}
 use Rattle.times.proofs.reading.two_at.Goals as goal

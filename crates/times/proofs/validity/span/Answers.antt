@@ -1,7 +1,6 @@
 -- `times::validity::span` meets its contract. Assumes nothing.
 use mathlib.Core.Path.{ap₂, ◌∙◌}
 use Prim.Native.Nat.{ℕ, ◌+◌, ◌-◌}
-use borrow.Author.Rules.{rules}
 use Rattle.times.proofs.validity.span.Goals as goal
 
 pub returns : goal.returns
