@@ -1,5 +1,4 @@
 -- `badges::is_fasc_n` meets its contract. Assumes nothing.
-use borrow.Author.Rules.{rules}
 use Rattle.der.specs.Oids.{sevens, subidentifier, subidentifiers, oid}
 use Rattle.badges.proofs.cards.is_fasc_n.Goals as goal
 

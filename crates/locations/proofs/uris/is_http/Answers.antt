@@ -1,5 +1,4 @@
 -- `locations::is_http` meets its contract. Assumes nothing.
-use borrow.Author.Rules.{rules}
 use Rattle.texts.specs.Texts.{word}
 use Rattle.locations.proofs.Laws.Uris.{http_read}
 use Rattle.locations.proofs.uris.is_http.Goals as goal

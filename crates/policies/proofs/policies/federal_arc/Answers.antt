@@ -1,5 +1,4 @@
 -- `policies::federal_arc` meets its contract. Assumes nothing.
-use borrow.Author.Rules.{rules}
 use Rattle.der.specs.Oids.{sevens, subidentifier, subidentifiers, oid}
 use Rattle.policies.proofs.policies.federal_arc.Goals as goal
 

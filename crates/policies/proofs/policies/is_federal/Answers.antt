@@ -1,5 +1,4 @@
 -- `policies::is_federal` meets its contract. Assumes nothing.
-use borrow.Author.Rules.{rules}
 use Rattle.der.specs.Oids.{sevens, subidentifier, subidentifiers, oid}
 use Rattle.policies.proofs.Laws.Policies.{policy_law}
 use Rattle.policies.proofs.policies.is_federal.Goals as goal

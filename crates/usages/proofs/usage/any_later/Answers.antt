@@ -1,8 +1,5 @@
-use mathlib.Core.Path.{◌≡◌, refl, sym, ◌∙◌}
-use Prim.Native.Nat.{◌+◌, ◌-◌}
-use native.Mathlib.Omega.{arith}
-use Rattle.usages.specs.Workings.Usage.{any_set}
-use Rattle.octets.specs.Octets.{octets_from}
+use mathlib.Core.Path.{refl, sym, ◌∙◌}
+use Prim.Native.Nat.{◌-◌}
 use Rattle.usages.proofs.Laws.Usage.{bits_done, bits_here, bits_later}
 use Rattle.usages.proofs.usage.any_later.Goals as goal
 
