@@ -101,6 +101,7 @@ module _ (s : List ℕ) (e : certificate_verdict s ≡ Fits) where
       go : (hs : List Head) → VersionNamed version (certificate_of s).serial hs → AllElements s hs → Element s version
       go [] (unwritten q) k = same_element_lem (q ∙ (named s e).serial) (in_required _ here)
       go (h ∷ []) (written q) k = same_element_lem q (k h here)
+      go (h ∷ (_ ∷ _)) x6 k = elim x6 [ ]
 
   -- ---- the two times
 

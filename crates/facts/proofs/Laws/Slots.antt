@@ -92,6 +92,7 @@ module _ (s : List ℕ) (e : certificate_verdict s ≡ Fits) where
       go (h ∷ []) (listed is f) (present g) k =
           let element : Element s list = members_of_lem 0xA3 _ s h refl refl g (k h here) list (among is here) in
           one_list element (in_fitting f element)
+      go (h ∷ (_ ∷ _)) x8 _ k = elim x8 [ ]
 
   list_element : list.sound ≡ true → Element s list
   list_element t = go list_is

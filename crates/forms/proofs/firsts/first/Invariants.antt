@@ -1,0 +1,12 @@
+-- `forms::firsts::first` meets its contract. Assumes nothing.
+use mathlib.Core.Path.{◌∙◌}
+use Prim.Native.Nat.{◌-◌}
+use Rattle.forms.specs.Kinds.{of_kind}
+use Rattle.der.proofs.Laws.Searching.{nearer, Search, search_start, search_found, search_next, search_end}
+use Rattle.forms.proofs.firsts.first.Given as goal
+
+abbrev pub invariant-loop-at : goal.invariant-loop-at
+invariant-loop-at l = Search (of_kind l.kind l.p l.s) l.s l.to l.from l.at
+
+abbrev pub decreases-loop-at : goal.decreases-loop-at
+decreases-loop-at l = l.to - l.at

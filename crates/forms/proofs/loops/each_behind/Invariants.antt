@@ -1,0 +1,14 @@
+-- `forms::loops::each_behind` meets its contract. Assumes nothing.
+use Prim.Native.Nat.{◌-◌}
+use Rattle.forms.specs.Kinds.{of_kind}
+use Rattle.report.specs.Entries.{noted}
+use Rattle.report.specs.Workings.Forms.{is_behind}
+use Rattle.der.proofs.Laws.Searching.{nearer}
+use Rattle.report.proofs.Laws.Loops.{Turn, turn_start, turn_next, turn_end, each_gathered}
+use Rattle.forms.proofs.loops.each_behind.Given as goal
+
+abbrev pub invariant-loop-at : goal.invariant-loop-at
+invariant-loop-at l = Turn (λ h. noted l.rule (is_behind (of_kind l.kind l.p l.s) l.place h) h) l.s l.to l.from l.n l.initial.room l.at l.count l.room
+
+abbrev pub decreases-loop-at : goal.decreases-loop-at
+decreases-loop-at l = l.to - l.at
