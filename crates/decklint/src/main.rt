@@ -3,8 +3,8 @@
 //
 // Nothing is written before the whole deck has been read, so where a read fails standard output stays empty. Where a write
 // fails the program ends there, and the listing lacks its last line. Either is said on standard error, by a line. An
-// argument gets the usage line there, and nothing is read. The exit status is 0 unless a signal ends the program, as a
-// write to a pipe that nobody reads does; `bin/decklint` makes a status of what was said.
+// argument gets the usage line there, and nothing is read. The exit status is 0 in each case; `bin/decklint` makes a status
+// of what was said.
 #![tactic(auto)]
 
 ghost use Rattle.std.specs.Prelude.{◌≡◌, ◌≤◌, length};
