@@ -1,4 +1,4 @@
--- certificate_policies ::= SEQUENCE SIZE (1..MAX) OF PolicyInformation (RFC 5280, 4.2.1.4), where
+-- certificatePolicies ::= SEQUENCE SIZE (1..MAX) OF PolicyInformation (RFC 5280, 4.2.1.4), where
 --     PolicyInformation ::= SEQUENCE { policyIdentifier OBJECT IDENTIFIER, policyQualifiers SEQUENCE SIZE (1..MAX) OF PolicyQualifierInfo OPTIONAL }
 --     PolicyQualifierInfo ::= SEQUENCE { policyQualifierId OBJECT IDENTIFIER, qualifier ANY }
 use Rattle.std.specs.Prelude.{List, [], ◌∷◌, Bool, true, false, not, ◌&&◌, ℕ, eqb}

@@ -39,7 +39,7 @@ other_bit bits names k = not (may_be_set names k) && bit_at bits k
 unfoldable pub other_bits : List ℕ → List ℕ → Bool
 other_bits bits names = any_below (other_bit bits names) (8 * length bits)
 
--- 502 "usage exactly digitalSignature, for 5 with nonRepudiation" (document 02, CR 4): digital_signature is set, non_repudiation is or is not, as asked, and
+-- 502 "usage exactly digitalSignature, for 5 with nonRepudiation" (document 02, CR 4): digitalSignature is set, nonRepudiation is or is not, as asked, and
 -- no other bit is
 abbrev pub signs_alone : List ℕ → Bool → Bool
 signs_alone bits lasting =

@@ -1,6 +1,6 @@
 -- What 502 asks of a key usage (document 02, CR 4), bit by bit: no word here of how code comes by it.
 --     asked_bit       the bits that are asked for
---     alone_bits     where it is kept digital_signature is set, non_repudiation as asked, and no other bit, whatever its number
+--     alone_bits     where it is kept digitalSignature is set, nonRepudiation as asked, and no other bit, whatever its number
 --     bits_alone     where the bits are so, it is kept
 -- Assumes nothing.
 use mathlib.Core.Path.{◌≡◌, refl, sym, ap, ◌∙◌}

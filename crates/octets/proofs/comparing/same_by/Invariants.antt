@@ -1,4 +1,4 @@
--- `octets::comparing::same_by_lem` meets its contract. The invariant: the answer is that of the octets from the kth on. Assumes nothing.
+-- `octets::comparing::same_by` meets its contract. The invariant: the answer is that of the octets from the kth on. Assumes nothing.
 use mathlib.Core.Path.{◌≡◌}
 use Prim.Native.Nat.{◌+◌, ◌-◌}
 use Rattle.octets.specs.Octets.{octets_from}
