@@ -26,123 +26,159 @@ mod calls;
 mod decks;
 mod lines;
 
+ghost use Rattle.std.specs.Prelude.{◌≡◌, length};
+
 use asn::Verdict;
 use der::Soundness;
+use std::io::{Print, Read};
 
-fn answer_form(found: Verdict) {
+fn answer_form(output: &impl Print, found: Verdict) {
     match found {
-        Verdict::Fits => {
-            io::write_all(1, b"certificate\n");
-        }
-        Verdict::Wrong(place) => lines::say(b"departs at ", place),
-        Verdict::Stranger => lines::say(b"departs at ", 0),
+        Verdict::Fits => lines::put(output, b"certificate\n"),
+        Verdict::Wrong(place) => lines::say(output, b"departs at ", place),
+        Verdict::Stranger => lines::say(output, b"departs at ", 0),
     }
 }
 
-fn answer_certificate(octets: &[u8]) {
+fn answer_certificate(output: &impl Print, octets: &[u8]) {
     match der::check_der(octets) {
-        Soundness::Sound => answer_form(asn::check_certificate(octets)),
-        Soundness::Unsound(place) => lines::say(b"unsound at ", place),
-        Soundness::Unordered(place) => lines::say(b"unordered at ", place),
+        Soundness::Sound => answer_form(output, asn::check_certificate(octets)),
+        Soundness::Unsound(place) => lines::say(output, b"unsound at ", place),
+        Soundness::Unordered(place) => lines::say(output, b"unordered at ", place),
     }
 }
 
-fn answer_encoding(octets: &[u8]) {
+fn answer_encoding(output: &impl Print, octets: &[u8]) {
     match der::check_der(octets) {
-        Soundness::Sound => {
-            io::write_all(1, b"sound\n");
-        }
-        Soundness::Unsound(place) => lines::say(b"unsound at ", place),
-        Soundness::Unordered(place) => lines::say(b"unordered at ", place),
+        Soundness::Sound => lines::put(output, b"sound\n"),
+        Soundness::Unsound(place) => lines::say(output, b"unsound at ", place),
+        Soundness::Unordered(place) => lines::say(output, b"unordered at ", place),
     }
 }
 
-fn answer_value(octets: &[u8], slot: usize) {
+fn answer_value(output: &impl Print, octets: &[u8], slot: usize) {
     if asn::value_ok(octets, slot, 0, octets.len()) {
-        io::write_all(1, b"value\n");
+        lines::put(output, b"value\n");
     } else {
-        io::write_all(1, b"no value\n");
+        lines::put(output, b"no value\n");
     }
 }
 
-fn answer_frame(kind: u8, frame: &[u8], room: &mut [u8]) {
+fn answer_frame(output: &impl Print, kind: u8, frame: &[u8], room: &mut [u8]) {
     match kind {
-        0 => answer_certificate(frame),
-        11 => answer_encoding(frame),
-        12 => calls::answer_call(frame, room),
-        13 => calls::answer_writing(frame, room),
-        15 => answer_value(frame, 11),
-        _ => answer_value(frame, octets::wide(kind)),
+        0 => answer_certificate(output, frame),
+        11 => answer_encoding(output, frame),
+        12 => calls::answer_call(output, frame, room),
+        13 => calls::answer_writing(output, frame, room),
+        15 => answer_value(output, frame, 11),
+        _ => answer_value(output, frame, octets::wide(kind)),
     }
+}
+
+// Fills the front of a buffer from the input, and says whether the input went so far.
+fn fill_from(input: &mut impl Read, space: &mut [u8]) -> bool {
+    input.read_exact(space).is_ok()
 }
 
 // Fills the deck from the input, answers it, and says whether it was whole.
-fn read_deck(deck: &mut [u8], room: &mut [u8]) -> bool {
-    if io::read_full(0, deck) != deck.len() {
+fn read_deck(input: &mut impl Read, output: &impl Print, deck: &mut [u8], room: &mut [u8]) -> bool {
+    if !fill_from(input, deck) {
         return false;
     }
-    decks::answer_deck(deck, room);
+    decks::answer_deck(output, deck, room);
     true
 }
 
-fn no_deck() -> bool {
-    calls::say_no_call();
+fn no_deck(output: &impl Print) -> bool {
+    calls::say_no_call(output);
     true
 }
 
 // Answers a frame of kind 14, whose n octets stand at the front of the space that then takes the deck, and says whether
 // to go on.
-fn answer_next_deck(n: usize, space: &mut [u8], room: &mut [u8]) -> bool {
+fn answer_next_deck(
+    input: &mut impl Read,
+    output: &impl Print,
+    n: usize,
+    space: &mut [u8],
+    room: &mut [u8],
+) -> bool {
     let size = octets::number(space, 0, 0, 3);
     let length = octets::number(space, 3, 0, 3);
     if n != 6 {
-        return no_deck();
+        return no_deck(output);
     }
     if room.len() < size {
-        return no_deck();
+        return no_deck(output);
     }
     if space.len() < length {
-        return no_deck();
+        return no_deck(output);
     }
-    read_deck(&mut space[..length], &mut room[..size])
+    read_deck(input, output, &mut space[..length], &mut room[..size])
 }
 
 // Reads a frame of n octets to the front of the space, answers it, and says whether to go on.
-fn answer_next_of(kind: u8, n: usize, space: &mut [u8], room: &mut [u8]) -> bool {
+fn answer_next_of(
+    input: &mut impl Read,
+    output: &impl Print,
+    kind: u8,
+    n: usize,
+    space: &mut [u8],
+    room: &mut [u8],
+) -> bool {
     if space.len() < n {
         return false;
     }
-    if io::read_full(0, &mut space[..n]) != n {
+    if !fill_from(input, &mut space[..n]) {
         return false;
     }
     if kind == 14 {
-        return answer_next_deck(n, space, room);
+        return answer_next_deck(input, output, n, space, room);
     }
-    answer_frame(kind, &space[..n], room);
+    answer_frame(output, kind, &space[..n], room);
     true
 }
 
 // Reads a frame's kind and length, answers the frame, and says whether to go on.
-fn answer_next(space: &mut [u8], room: &mut [u8]) -> bool {
+fn answer_next(
+    input: &mut impl Read,
+    output: &impl Print,
+    space: &mut [u8],
+    room: &mut [u8],
+) -> bool {
     let mut head = [0u8; 3];
-    if io::read_full(0, &mut head) != 3 {
+    if !fill_from(input, &mut head) {
         return false;
     }
-    answer_next_of(octets::octet(&head, 0), octets::pair(&head, 1), space, room)
+    answer_next_of(
+        input,
+        output,
+        octets::octet(&head, 0),
+        octets::pair(&head, 1),
+        space,
+        room,
+    )
 }
 
-// A proved loop has to end, and nothing says that its input does: it counts its turns down from a number that no
-// run uses up.
-fn answer_all(space: &mut [u8], room: &mut [u8]) {
-    let mut turns = u64::MAX;
-    while turns > 0 && answer_next(space, room) {
-        turns -= 1;
+// A proved loop has to end, and nothing says that its input does: it takes as many turns as no run uses up.
+fn answer_all(input: &mut impl Read, output: &impl Print, space: &mut [u8], room: &mut [u8]) {
+    for _ in 0..u64::MAX {
+        if !answer_next(input, output, space, room) {
+            return;
+        }
     }
+}
+
+// A proof that has so long an array before it goes through all of it, so the arrays are made here.
+fn large_space() -> [u8; 65536]
+    ensures { 65536 ≡ length result }
+{
+    [0; 65536]
 }
 
 // Frames and decks come into `space`, and the linter, the writer and the reader get `room`.
-fn main() {
-    let mut space = io::large_buffer();
-    let mut room = io::large_buffer();
-    answer_all(&mut space, &mut room);
+fn main(rt: HostRuntime) {
+    let mut space = large_space();
+    let mut room = large_space();
+    answer_all(&mut rt.stdin(), &rt, &mut space, &mut room);
 }

@@ -14,7 +14,7 @@ use Rattle.times.specs.declared.reading.Reading.{Reading}
 use Rattle.times.specs.declared.reading.Reading.TheVariants.{Is, Bad}
 use Rattle.der.specs.Members.{first_in, after, past, inside_tag}
 
--- ---- Certificate: tbs_certificate, signatureAlgorithm, signatureValue
+-- ---- Certificate: tbsCertificate, signatureAlgorithm, signatureValue
 
 -- the outermost element
 unfoldable pub whole_of : List ℕ → Head
@@ -26,7 +26,7 @@ tbs_of s = first_in s (whole_of s)
 unfoldable pub outer_of : List ℕ → Head
 outer_of s = after s (tbs_of s) (whole_of s).end
 
--- ---- TBSCertificate: [0] version, serialNumber, signature, issuer, validity, subject, subject_public_key_info, [1] issuerUniqueID,
+-- ---- TBSCertificate: [0] version, serialNumber, signature, issuer, validity, subject, subjectPublicKeyInfo, [1] issuerUniqueID,
 -- ---- [2] subjectUniqueID, [3] extensions. The argument is the TBSCertificate.
 
 -- the [0], or the serial number where the version is not written

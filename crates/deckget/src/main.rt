@@ -2,8 +2,8 @@
 //
 // It reads the deck on standard input whole, and writes that side of every record of that number to standard output, in
 // the deck's order. Where there is no such record, where there is more than one, where the deck is too long or a call of
-// the system fails, standard error says so; other arguments get the usage line there. The exit status is 0 in each case,
-// since a Rattle program has no other; `bin/deckget` makes a status of what was said.
+// the system fails, standard error says so; other arguments get the usage line there. The exit status is 0 in each case;
+// `bin/deckget` makes a status of what was said.
 #![tactic(auto)]
 
 mod sides;
@@ -13,10 +13,11 @@ ghost use Rattle.std.specs.Prelude.{◌≡◌, length};
 ghost use Rattle.retrieval.specs.Fetching.{sides_of};
 ghost use Rattle.deckget.specs.Workings.Outcomes.{WroteAll};
 
-use libc::STDIN_FILENO;
 use lint::Side;
 use retrieval::Fetched;
 use sides::Choice;
+use std::io::{Print, Read};
+use std::rt::Env;
 use streams::Loaded;
 use texts::Numeral;
 
@@ -54,12 +55,18 @@ enum Outcome {
     Failed,
 }
 
-fn write(side: &[u8]) -> bool {
-    streams::write_out(side, b"standard output")
+fn write(output: &impl Print, errors: &impl Print, side: &[u8]) -> bool {
+    streams::write_out(output, errors, side, b"standard output")
 }
 
 // Writes that side of each record of the number, and answers how many records there are. There is always room for it.
-fn write_sides(deck: &[u8], number: usize, side: Side) -> Outcome
+fn write_sides(
+    output: &impl Print,
+    errors: &impl Print,
+    deck: &[u8],
+    number: usize,
+    side: Side,
+) -> Outcome
     ensures { WroteAll (sides_of side number deck.now) result }
 {
     let mut space = side_space();
@@ -69,7 +76,7 @@ fn write_sides(deck: &[u8], number: usize, side: Side) -> Outcome
         let fetched = retrieval::fetch(deck, position, number, side, &mut space);
         match fetched {
             Fetched::Octets(n, next) => {
-                if !write(&space[..n]) {
+                if !write(output, errors, &space[..n]) {
                     return Outcome::Failed;
                 }
                 position = next;
@@ -82,51 +89,64 @@ fn write_sides(deck: &[u8], number: usize, side: Side) -> Outcome
 }
 
 // The same, and says where it is not one side.
-fn get(deck: &[u8], number: usize, side: Side) {
-    let outcome = write_sides(deck, number, side);
+fn get(output: &impl Print, errors: &impl Print, deck: &[u8], number: usize, side: Side) {
+    let outcome = write_sides(output, errors, deck, number, side);
     if let Outcome::Wrote(count) = outcome {
-        words::say_count(number, count);
+        words::say_count(errors, number, count);
     }
 }
 
 // The same of the deck on standard input.
-fn get_from_input(number: usize, side: Side) {
+fn get_from_input(
+    input: &mut impl Read,
+    output: &impl Print,
+    errors: &impl Print,
+    number: usize,
+    side: Side,
+) {
     let mut space = deck_space();
-    let loaded = streams::read_all(STDIN_FILENO, &mut space);
-    let Loaded::Octets(n) = loaded else {
-        return os::fail(b"standard input");
+    let n = match streams::read_all(input, &mut space) {
+        Loaded::Octets(n) => n,
+        Loaded::Unreadable(error) => {
+            return streams::say_why(errors, b"standard input", error);
+        }
     };
     if n > MOST {
-        return words::say_too_long();
+        return words::say_too_long(errors);
     }
-    get(&space[..n], number, side);
+    get(output, errors, &space[..n], number, side);
 }
 
 // The number that argument i says.
-fn number_in(i: usize) -> Numeral {
-    let mut text = io::buffer();
-    let n = os::arg(i, &mut text);
-    texts::decimal_of(&text[..n])
+fn number_in(rt: &impl Env, i: usize) -> Numeral {
+    let mut text = streams::name_space();
+    match streams::argument(rt, i, &mut text) {
+        Loaded::Octets(n) => texts::decimal_of(&text[..n]),
+        Loaded::Unreadable(_) => Numeral::Other,
+    }
 }
 
 // The side that argument i names.
-fn side_in(i: usize) -> Choice {
-    let mut text = io::buffer();
-    let n = os::arg(i, &mut text);
-    sides::side_named(&text[..n])
+fn side_in(rt: &impl Env, i: usize) -> Choice {
+    let mut text = streams::name_space();
+    match streams::argument(rt, i, &mut text) {
+        Loaded::Octets(n) => sides::side_named(&text[..n]),
+        Loaded::Unreadable(_) => Choice::Unknown,
+    }
 }
 
-fn main() {
-    if os::arg_count() != 3 {
-        return words::say_how_to_call();
+fn main(rt: HostRuntime) {
+    let errors = rt.stderr();
+    if streams::arg_count(&rt) != 3 {
+        return words::say_how_to_call(&errors);
     }
-    let first = number_in(1);
-    let second = side_in(2);
+    let first = number_in(&rt, 1);
+    let second = side_in(&rt, 2);
     let Numeral::Number(number) = first else {
-        return words::say_how_to_call();
+        return words::say_how_to_call(&errors);
     };
     let Choice::Known(side) = second else {
-        return words::say_how_to_call();
+        return words::say_how_to_call(&errors);
     };
-    get_from_input(number as usize, side);
+    get_from_input(&mut rt.stdin(), &rt, &errors, number as usize, side);
 }

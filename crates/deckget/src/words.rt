@@ -1,38 +1,38 @@
 // What is said on standard error.
-use libc::STDERR_FILENO;
+use std::io::Print;
+use streams::say;
 
-fn say(text: &[u8]) {
-    io::write_all(STDERR_FILENO, text);
-}
-
-pub fn say_how_to_call() {
-    say(b"usage: deckget NUMBER certificate|issuer < DECK > FILE\n");
+pub fn say_how_to_call(errors: &impl Print) {
+    say(
+        errors,
+        b"usage: deckget NUMBER certificate|issuer < DECK > FILE\n",
+    );
 }
 
 // The words of the listing.
-pub fn say_too_long() {
-    say(b"deck too long\n");
+pub fn say_too_long(errors: &impl Print) {
+    say(errors, b"deck too long\n");
 }
 
-fn say_number(number: usize) {
-    io::print_decimal(STDERR_FILENO, number as u64);
+fn say_number(errors: &impl Print, number: usize) {
+    streams::say_number(errors, number as u64);
 }
 
 // How many records have the number, unless it is one. A record that lost a block is not among them.
-pub fn say_count(number: usize, count: usize) {
+pub fn say_count(errors: &impl Print, number: usize, count: usize) {
     match count {
         0 => {
-            say(b"the deck has no whole record ");
-            say_number(number);
-            say(b"; nothing was written\n");
+            say(errors, b"the deck has no whole record ");
+            say_number(errors, number);
+            say(errors, b"; nothing was written\n");
         }
         1 => {}
         _ => {
-            say(b"the deck has ");
-            say_number(count);
-            say(b" records ");
-            say_number(number);
-            say(b", which were written one behind the other\n");
+            say(errors, b"the deck has ");
+            say_number(errors, count);
+            say(errors, b" records ");
+            say_number(errors, number);
+            say(errors, b", which were written one behind the other\n");
         }
     }
 }

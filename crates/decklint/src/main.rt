@@ -1,16 +1,16 @@
 // Lists the deck on standard input (document 01, "The deck"): prints what `printed` of the crate `listing` says of it
-// (`writes-printed` there: whoever writes one fill after the other, until all is put, writes that).
+// (`writes_printed` there: whoever writes one fill after the other, until all is put, writes that).
 //
 // Nothing is written before the whole deck has been read, so where a read fails standard output stays empty. Where a write
 // fails the program ends there, and the listing lacks its last line. Either is said on standard error, by a line. An
-// argument gets the usage line there, and nothing is read. A program cannot choose its exit status: it is 0 unless a
-// signal ends it, as a write to a pipe that nobody reads does; `bin/decklint` makes a status of what was said.
+// argument gets the usage line there, and nothing is read. The exit status is 0 in each case; `bin/decklint` makes a status
+// of what was said.
 #![tactic(auto)]
 
 ghost use Rattle.std.specs.Prelude.{◌≡◌, ◌≤◌, length};
 ghost use Rattle.listing.specs.Filling.{item_space};
 
-use libc::{STDERR_FILENO, STDIN_FILENO};
+use std::io::{Print, Read};
 use streams::Loaded;
 
 // Space for a deck, and for a part of its listing. A proof that has so long an array before it goes through all of it, so
@@ -27,19 +27,19 @@ fn listing_space() -> [u8; listing::LISTING_SPACE]
     [0; listing::LISTING_SPACE]
 }
 
-fn write(octets: &[u8]) -> bool {
-    streams::write_out(octets, b"decklint: standard output")
+fn write(output: &impl Print, errors: &impl Print, octets: &[u8]) -> bool {
+    streams::write_out(output, errors, octets, b"decklint: standard output")
 }
 
 // A buffer in which any item has space is filled and written until all is put.
-fn list_deck(deck: &[u8], out: &mut [u8])
+fn list_deck(output: &impl Print, errors: &impl Print, deck: &[u8], out: &mut [u8])
     requires { item_space ≤ length out.old }
 {
     let mut progress = listing::start();
     loop {
         let filling = listing::fill_listing(out, deck, progress);
         let end = filling.end;
-        if !write(&out[..end]) {
+        if !write(output, errors, &out[..end]) {
             return;
         }
         if filling.done {
@@ -50,23 +50,22 @@ fn list_deck(deck: &[u8], out: &mut [u8])
 }
 
 // Lists the deck on standard input.
-fn list_input() {
+fn list_input(input: &mut impl Read, output: &impl Print, errors: &impl Print) {
     let mut space = deck_space();
     let mut out = listing_space();
-    let loaded = streams::read_all(STDIN_FILENO, &mut space);
-    match loaded {
-        Loaded::Octets(n) => list_deck(&space[..n], &mut out),
-        Loaded::Unreadable => os::fail(b"decklint: standard input"),
+    match streams::read_all(input, &mut space) {
+        Loaded::Octets(n) => list_deck(output, errors, &space[..n], &mut out),
+        Loaded::Unreadable(error) => streams::say_why(errors, b"decklint: standard input", error),
     }
 }
 
-fn say_usage() {
-    io::write_all(STDERR_FILENO, b"usage: decklint < DECK\n");
+fn say_usage(errors: &impl Print) {
+    streams::say(errors, b"usage: decklint < DECK\n");
 }
 
-fn main() {
-    if os::arg_count() != 1 {
-        return say_usage();
+fn main(rt: HostRuntime) {
+    if streams::arg_count(&rt) != 1 {
+        return say_usage(&rt.stderr());
     }
-    list_input();
+    list_input(&mut rt.stdin(), &rt, &rt.stderr());
 }

@@ -4,6 +4,11 @@ ghost use Rattle.std.specs.Prelude.{◌≡◌};
 ghost use Rattle.deckpack.specs.Ending.{ending_of};
 
 use crate::words;
+use std::fs::{OpenFile, OpenOptions};
+use std::io;
+use std::io::{Print, Seek, SeekFrom, Write};
+use std::rt::{Env, Files};
+use streams::Loaded;
 
 // How a deck ends.
 #[derive(Clone, Copy)]
@@ -31,57 +36,78 @@ pub fn ending_of(length: i64) -> Ending
 }
 
 // Writes the blocks, and answers whether they are on the disk. Where not, it says why.
-fn write_through(file: i32, name: &[u8], blocks: &[u8]) -> bool {
-    if !streams::write_to(file, blocks, name) {
+fn write_through(
+    file: &mut (impl Write + OpenFile),
+    errors: &impl Print,
+    name: &[u8],
+    blocks: &[u8],
+) -> bool {
+    if !streams::write_to(file, errors, blocks, name) {
         return false;
     }
-    if libc::fsync(file) == 0 {
-        return true;
+    match file.sync_all() {
+        Ok(()) => true,
+        Err(error) => {
+            streams::say_why(errors, name, error);
+            false
+        }
     }
-    os::fail(name);
-    false
 }
 
 // Takes the deck back to the length that it had.
-fn take_back(file: i32, name: &[u8], length: i64, octets: u64) {
-    if libc::ftruncate(file, length) == 0 {
-        return words::say_taken_back(octets);
+fn take_back(file: &impl OpenFile, errors: &impl Print, name: &[u8], octets: u64) {
+    match file.set_len(octets) {
+        Ok(()) => words::say_taken_back(errors, octets),
+        Err(error) => {
+            streams::say_why(errors, name, error);
+            words::say_left(errors, name, octets);
+        }
     }
-    os::fail(name);
-    words::say_left(name, octets);
 }
 
-// Adds the blocks to an open deck, by whose descriptor its length is read too.
-fn append_to(file: i32, name: &[u8], blocks: &[u8]) {
-    let length = libc::lseek(file, 0, libc::SEEK_END);
-    let ending = ending_of(length);
-    match ending {
+// The length that the system gives, below 0 where it gives none.
+fn length_of(end: io::Result<u64>) -> i64 {
+    match end {
+        Ok(octets) => octets.cast_signed(),
+        Err(_) => -1,
+    }
+}
+
+// Adds the blocks to an open deck, by which its length is read too.
+fn append_to(
+    file: &mut (impl Write + Seek + OpenFile),
+    errors: &impl Print,
+    name: &[u8],
+    blocks: &[u8],
+) {
+    let end = file.seek(SeekFrom::End(0));
+    match ending_of(length_of(end)) {
         Ending::Whole(octets) => {
-            if !write_through(file, name, blocks) {
-                take_back(file, name, length, octets);
+            if !write_through(file, errors, name, blocks) {
+                take_back(file, errors, name, octets);
             }
         }
-        Ending::Torn(torn) => words::say_torn(name, torn),
-        Ending::Unknown => os::fail(name),
+        Ending::Torn(torn) => words::say_torn(errors, name, torn),
+        Ending::Unknown => words::say_endless(errors, name, end),
     }
 }
 
-fn append_named(name: &[u8], blocks: &[u8]) {
-    let file = os::open_append(name);
-    if file < 0 {
-        return words::say_unopened(name);
+// A deck that is not there is not made: a name that was mistyped would get a deck of its own, and the record would be
+// missed in the other.
+fn append_named(rt: &impl Files, errors: &impl Print, name: &[u8], blocks: &[u8]) {
+    let mut how = OpenOptions::new();
+    how.append(true);
+    match streams::open(rt, &how, name) {
+        Ok(mut file) => append_to(&mut file, errors, name, blocks),
+        Err(error) => words::say_unopened(errors, name, error),
     }
-    append_to(file, name, blocks);
-    libc::close(file);
 }
 
-// Adds the blocks to the deck that argument i names. A deck that is not there is not made: a name that was mistyped would
-// get a deck of its own, and the record would be missed in the other.
-pub fn append(i: usize, blocks: &[u8]) {
-    let mut name = io::buffer();
-    let n = os::arg(i, &mut name);
-    if os::errno() != 0 {
-        return os::fail(b"deck's name");
+// Adds the blocks to the deck that argument i names.
+pub fn append(rt: &(impl Env + Files), errors: &impl Print, i: usize, blocks: &[u8]) {
+    let mut name = streams::name_space();
+    match streams::argument(rt, i, &mut name) {
+        Loaded::Octets(n) => append_named(rt, errors, &name[..n], blocks),
+        Loaded::Unreadable(error) => streams::say_why(errors, b"deck's name", error),
     }
-    append_named(&name[..n], blocks);
 }

@@ -4,7 +4,7 @@
 // NUMBER and PROFILE are decimal digits, CERTIFICATE and ISSUER name files in DER. A refusal goes to standard error, as
 // `refused 3: the profile is not 1, 2, 3 or 4`, and then nothing is written; so it is where the arguments are no such four
 // or five, which the usage line says, and where a file cannot be read. A deck is opened once the record is judged. The
-// exit status is 0 in each case, since a Rattle program has no other; `bin/deckpack` makes a status of what was said.
+// exit status is 0 in each case; `bin/deckpack` makes a status of what was said.
 #![tactic(auto)]
 
 mod appending;
@@ -12,6 +12,8 @@ mod words;
 
 ghost use Rattle.std.specs.Prelude.{◌≡◌, min, ◌≤◌};
 
+use std::io::Print;
+use std::rt::{Env, Files};
 use streams::Loaded;
 use texts::Numeral;
 use writer::Placing;
@@ -30,22 +32,30 @@ enum Target {
     Deck,
 }
 
-fn hand_out(target: Target, blocks: &[u8]) {
+fn hand_out(rt: &(impl Env + Files + Print), errors: &impl Print, target: Target, blocks: &[u8]) {
     match target {
         Target::Output => {
-            streams::write_out(blocks, b"standard output");
+            streams::write_out(rt, errors, blocks, b"standard output");
         }
-        Target::Deck => appending::append(1, blocks),
+        Target::Deck => appending::append(rt, errors, 1, blocks),
     }
 }
 
 // Hands the record's blocks out, or says why not.
-fn pack(target: Target, number: u32, profile: u8, certificate: &[u8], issuer: &[u8]) {
+fn pack(
+    rt: &(impl Env + Files + Print),
+    errors: &impl Print,
+    target: Target,
+    number: u32,
+    profile: u8,
+    certificate: &[u8],
+    issuer: &[u8],
+) {
     let mut room = [0u8; ROOM];
     let answer = writer::write_record(number, profile, certificate, issuer, &mut room);
     match answer {
-        Placing::Blocks(count) => hand_out(target, &room[..512 * count]),
-        Placing::Refused(r) => words::say_refusal(r),
+        Placing::Blocks(count) => hand_out(rt, errors, target, &room[..512 * count]),
+        Placing::Refused(r) => words::say_refusal(errors, r),
     }
 }
 
@@ -60,19 +70,33 @@ fn number_place(target: Target) -> usize
 }
 
 // The same of the two files.
-fn pack_files(target: Target, number: u32, profile: u8) {
+fn pack_files(
+    rt: &(impl Env + Files + Print),
+    errors: &impl Print,
+    target: Target,
+    number: u32,
+    profile: u8,
+) {
     let place = number_place(target);
     let mut certificate = [0u8; SIDE];
-    let first = streams::load(place + 2, &mut certificate);
+    let first = streams::load(rt, errors, place + 2, &mut certificate);
     let Loaded::Octets(n) = first else {
         return;
     };
     let mut issuer = [0u8; SIDE];
-    let second = streams::load(place + 3, &mut issuer);
+    let second = streams::load(rt, errors, place + 3, &mut issuer);
     let Loaded::Octets(m) = second else {
         return;
     };
-    pack(target, number, profile, &certificate[..n], &issuer[..m]);
+    pack(
+        rt,
+        errors,
+        target,
+        number,
+        profile,
+        &certificate[..n],
+        &issuer[..m],
+    );
 }
 
 // A profile past 255 counts as 255, which is refused by 3 as every profile is that is not 1, 2, 3 or 4.
@@ -83,30 +107,33 @@ fn profile_octet(profile: u32) -> u8
 }
 
 // The number that argument i says.
-fn number_in(i: usize) -> Numeral {
-    let mut text = io::buffer();
-    let n = os::arg(i, &mut text);
-    texts::decimal_of(&text[..n])
+fn number_in(rt: &impl Env, i: usize) -> Numeral {
+    let mut text = streams::name_space();
+    match streams::argument(rt, i, &mut text) {
+        Loaded::Octets(n) => texts::decimal_of(&text[..n]),
+        Loaded::Unreadable(_) => Numeral::Other,
+    }
 }
 
 // The same of number and profile.
-fn pack_arguments(target: Target) {
+fn pack_arguments(rt: &(impl Env + Files + Print), errors: &impl Print, target: Target) {
     let place = number_place(target);
-    let first = number_in(place);
-    let second = number_in(place + 1);
+    let first = number_in(rt, place);
+    let second = number_in(rt, place + 1);
     let Numeral::Number(number) = first else {
-        return words::say_usage();
+        return words::say_usage(errors);
     };
     let Numeral::Number(profile) = second else {
-        return words::say_usage();
+        return words::say_usage(errors);
     };
-    pack_files(target, number, profile_octet(profile));
+    pack_files(rt, errors, target, number, profile_octet(profile));
 }
 
-fn main() {
-    match os::arg_count() {
-        5 => pack_arguments(Target::Output),
-        6 => pack_arguments(Target::Deck),
-        _ => words::say_usage(),
+fn main(rt: HostRuntime) {
+    let errors = rt.stderr();
+    match streams::arg_count(&rt) {
+        5 => pack_arguments(&rt, &errors, Target::Output),
+        6 => pack_arguments(&rt, &errors, Target::Deck),
+        _ => words::say_usage(&errors),
     }
 }

@@ -1,8 +1,8 @@
 -- CRL distribution points (RFC 5280, 4.2.1.13):
---     DistributionPoint ::= SEQUENCE { distribution_point [0] DistributionPointName OPTIONAL, reasons [1] ReasonFlags OPTIONAL,
+--     DistributionPoint ::= SEQUENCE { distributionPoint [0] DistributionPointName OPTIONAL, reasons [1] ReasonFlags OPTIONAL,
 --                                      cRLIssuer [2] GeneralNames OPTIONAL }
 --     DistributionPointName ::= CHOICE { fullName [0] GeneralNames, nameRelativeToCRLIssuer [1] RelativeDistinguishedName }
--- All tags are implicit but that of distribution_point, since a CHOICE has no tag to replace: it holds the fullName as an element.
+-- All tags are implicit but that of distributionPoint, since a CHOICE has no tag to replace: it holds the fullName as an element.
 use Rattle.std.specs.Prelude.{List, Bool, cond, ◌&&◌, ◌||◌, ℕ, eqb}
 use Rattle.der.specs.Members.{missing, members_in, first_in}
 use Rattle.der.specs.Tags.{context_tag, context_holder}
@@ -17,7 +17,7 @@ is_restriction h = eqb h.tag (context_tag 1) || eqb h.tag (context_holder 2)
 abbrev pub is_restricted : List ℕ → Head → Bool
 is_restricted s h = any_of is_restriction (members_in s h)
 
--- a point has a full name: distribution_point stands first, and in it fullName
+-- a point has a full name: distributionPoint stands first, and in it fullName
 abbrev pub has_full_name : List ℕ → Head → Bool
 has_full_name s h = eqb (first_in s h).tag (context_holder 0) && eqb (first_in s (first_in s h)).tag (context_holder 0)
 

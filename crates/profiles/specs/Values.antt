@@ -3,11 +3,14 @@ use Rattle.std.specs.Prelude.{Bool, true, false, ◌||◌, List, [], ◌∷◌, 
 use Rattle.profiles.specs.declared.fields.Profile.{Profile}
 use Rattle.profiles.specs.declared.fields.Profile.TheVariants.{Domain, Organization, Responder, Subordinate}
 
--- ---- 404, 405 and 422: KeyUsage ::= BIT STRING { digital_signature (0), .. key_encipherment (2), .. key_agreement (4), key_cert_sign (5), crl_sign (6), .. }
+-- ---- 404, 405 and 422: KeyUsage ::= BIT STRING { digitalSignature (0), .. keyEncipherment (2), .. keyAgreement (4), keyCertSign (5), cRLSign (6), .. }
 -- ---- (RFC 5280, 4.2.1.3), bits by their names
 
 abbrev pub digital_signature : ℕ
 digital_signature = 0
+
+abbrev pub non_repudiation : ℕ
+non_repudiation = 1
 
 abbrev pub key_encipherment : ℕ
 key_encipherment = 2
@@ -21,7 +24,7 @@ key_cert_sign = 5
 abbrev pub crl_sign : ℕ
 crl_sign = 6
 
--- what may be set besides digital_signature: "keyEncipherment with RSA .. (S); none (O ..)". A subordinate CA is not judged by 405.
+-- what may be set besides digitalSignature: "keyEncipherment with RSA .. (S); none (O ..)". A subordinate CA is not judged by 405.
 abbrev pub usage_with_rsa : Profile → List ℕ
 usage_with_rsa Domain = key_encipherment ∷ []
 usage_with_rsa Organization = key_encipherment ∷ []

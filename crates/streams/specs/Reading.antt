@@ -6,4 +6,4 @@ use Rattle.streams.specs.declared.reading.Loaded.TheVariants.{Octets, Unreadable
 -- no more octets than there is space for
 abbrev pub Within : Loaded → ℕ → Type 0
 Within (Octets n) space = n ≤ space
-Within Unreadable space = Unit {0}
+Within (Unreadable why) space = Unit {0}

@@ -1,8 +1,13 @@
-// What programs read and write by descriptors: a file to its end, the file that an argument names, standard output.
+// What programs read and write: a file to its end, an argument, the file that an argument names, standard output, and words
+// on standard error.
 #![tactic(auto)]
 
+mod arguments;
 mod reading;
+mod saying;
 mod writing;
 
-pub use reading::{Loaded, load, read_all};
+pub use arguments::{arg_count, argument, name_space};
+pub use reading::{Loaded, load, open, read_all};
+pub use saying::{say, say_number, say_why};
 pub use writing::{write_out, write_to};

@@ -2,34 +2,40 @@
 ghost use Rattle.std.specs.Prelude.{length};
 ghost use Rattle.streams.specs.Reading.{Within};
 
+use crate::arguments::{argument, name_space};
+use crate::saying::say_why;
+use std::fs::OpenOptions;
+use std::io::{Error, ErrorKind, Print, Read};
+use std::rt::{Env, Files};
+use std::{io, str};
+
 #[derive(Clone, Copy)]
 pub enum Loaded {
     // so many octets, at the front of the space
     Octets(usize),
-    // a read failed
-    Unreadable,
+    // a read failed, and why
+    Unreadable(Error),
 }
 
 // Reads once. No octets are the end of the file.
-fn read_some(file: i32, space: &mut [u8]) -> Loaded
+fn read_some(file: &mut impl Read, space: &mut [u8]) -> Loaded
     ensures { Within result (length space.new) }
 {
-    let got = libc::read(file, space);
-    if got < 0 {
-        return Loaded::Unreadable;
+    match file.read(space) {
+        Ok(n) => Loaded::Octets(n),
+        Err(error) => Loaded::Unreadable(error),
     }
-    Loaded::Octets(io::count(got, space))
 }
 
-// Reads to the end of the file or of the space, or until a read fails, which is the caller's to say (`os::fail`).
-pub fn read_all(file: i32, space: &mut [u8]) -> Loaded
+// Reads to the end of the file or of the space, or until a read fails, which is the caller's to say (`say_why`).
+pub fn read_all(file: &mut impl Read, space: &mut [u8]) -> Loaded
     ensures { Within result (length space.new) }
 {
     let mut at: usize = 0;
     while at < space.len() {
-        let some = read_some(file, &mut space[at..]);
-        let Loaded::Octets(n) = some else {
-            return Loaded::Unreadable;
+        let n = match read_some(file, &mut space[at..]) {
+            Loaded::Octets(n) => n,
+            Loaded::Unreadable(error) => return Loaded::Unreadable(error),
         };
         if n == 0 {
             return Loaded::Octets(at);
@@ -39,32 +45,47 @@ pub fn read_all(file: i32, space: &mut [u8]) -> Loaded
     Loaded::Octets(at)
 }
 
+// Opens the file of that name. The library opens none by a name that is no text in UTF-8.
+pub fn open<R: Files>(rt: &R, how: &OpenOptions, name: &[u8]) -> io::Result<R::File> {
+    match str::from_utf8(name) {
+        Ok(path) => how.open(rt, path),
+        Err(_) => Err(Error::from(ErrorKind::InvalidFilename)),
+    }
+}
+
 // Reads the file of that name into the space.
-fn load_named(name: &[u8], space: &mut [u8]) -> Loaded
+fn read_named(rt: &impl Files, name: &[u8], space: &mut [u8]) -> Loaded
     ensures { Within result (length space.new) }
 {
-    let file = os::open_read(name);
-    if file < 0 {
-        os::fail(name);
-        return Loaded::Unreadable;
+    let mut how = OpenOptions::new();
+    how.read(true);
+    match open(rt, &how, name) {
+        Ok(mut file) => read_all(&mut file, space),
+        Err(error) => Loaded::Unreadable(error),
     }
-    let loaded = read_all(file, space);
-    if let Loaded::Unreadable = loaded {
-        os::fail(name);
+}
+
+// The same, and says on standard error why it cannot.
+fn load_named(rt: &impl Files, errors: &impl Print, name: &[u8], space: &mut [u8]) -> Loaded
+    ensures { Within result (length space.new) }
+{
+    let loaded = read_named(rt, name, space);
+    if let Loaded::Unreadable(error) = loaded {
+        say_why(errors, name, error);
     }
-    libc::close(file);
     loaded
 }
 
 // Reads the file that argument i names. Where it cannot, it says why on standard error.
-pub fn load(i: usize, space: &mut [u8]) -> Loaded
+pub fn load(rt: &(impl Env + Files), errors: &impl Print, i: usize, space: &mut [u8]) -> Loaded
     ensures { Within result (length space.new) }
 {
-    let mut name = io::buffer();
-    let n = os::arg(i, &mut name);
-    if os::errno() != 0 {
-        os::fail(b"file name");
-        return Loaded::Unreadable;
+    let mut name = name_space();
+    match argument(rt, i, &mut name) {
+        Loaded::Octets(n) => load_named(rt, errors, &name[..n], space),
+        Loaded::Unreadable(error) => {
+            say_why(errors, b"file name", error);
+            Loaded::Unreadable(error)
+        }
     }
-    load_named(&name[..n], space)
 }

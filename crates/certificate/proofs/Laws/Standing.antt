@@ -7,15 +7,15 @@
 use mathlib.Core.Path.{◌≡◌, refl, sym, ap, ◌∙◌}
 use mathlib.Core.List.{List, [], ◌∷◌}
 use mathlib.Core.List.Memᴰ
-use mathlib.Core.Bool.{Bool, true, false, cond, not, ◌&&◌, false≢true}
+use mathlib.Core.Bool.{Bool, true, false, cond, false≢true}
 use Prim.Native.Nat.{ℕ, zero, suc, ◌+◌, ◌-◌, ◌<◌}
 use native.Mathlib.Omega.{arith}
 use lib.ListN.{get_or}
 use lib.Dec.{eqb}
 use borrow.Author.Tests.{lt-leb, ne_eqb, eqb-true, eqb-false}
-use Rattle.certificate.specs.Extensions.{identifier_of, extension_of, identifiers, position_from, slot_for, slot_of}
+use Rattle.certificate.specs.Extensions.{identifier_of, extension_of, identifiers, slot_for, slot_of}
 use Rattle.certificate.specs.Fields.{certificate_of}
-use Rattle.certificate.specs.Issuer.{Known, key_identifier_in, known_of, key_id_in, issuer_of, key_identifier_of, known}
+use Rattle.certificate.specs.Issuer.{key_identifier_in, known_of, key_id_in, issuer_of, key_identifier_of, known}
 use Rattle.certificate.specs.Slots.{slot_count, first_in_slot, slot_from, empty_slot, slots_of}
 use Rattle.certificate.specs.Standing.{Standing, by_value, first_with, identifier_at, standing_in, over_table, standing_at, extension_by, standing_by}
 use Rattle.certificate.specs.declared.slots.Slot.{Slot}
@@ -23,12 +23,11 @@ use Rattle.octets.specs.Same.{same_by, exactly}
 use Rattle.octets.proofs.Laws.Same.{same_lists, lists_same}
 use Rattle.octets.proofs.Laws.Finite.{all_below, all_below_lem}
 use Rattle.der.specs.Elements.{first_of, is_empty}
-use Rattle.der.specs.Members.{missing, members_in, first_in}
+use Rattle.der.specs.Members.{missing, members_in}
 use Rattle.der.specs.Order.{octets_of}
 use Rattle.der.specs.Oids.{sevens, subidentifier, subidentifiers, oid}
 use Rattle.der.specs.declared.header.Head.{Head}
 use Rattle.der.proofs.Laws.Searching.{Full, children_full, missing_empty}
-use Rattle.asn.specs.Answers.{value_ok}
 use Rattle.certificate.proofs.Laws.Extensions.{listed_at}
 use Rattle.certificate.proofs.Laws.Slots.{numbers_at}
 use Rattle.certificate.proofs.Laws.Values.{slot_empty, slot_at}

@@ -1,5 +1,4 @@
 -- `export::packed` meets its contract. Assumes nothing.
-use borrow.Author.Rules.{rules}
 use Rattle.export.proofs.Laws.Packing.{packed_count, packed_by}
 use Rattle.export.proofs.packed.Goals as goal
 

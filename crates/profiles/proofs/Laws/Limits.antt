@@ -1,7 +1,7 @@
 -- How long a validity may be, by profile.
 --     limit_positive     every profile allows a day, or a year, at least
 -- Assumes nothing.
-use Prim.Native.Nat.{ℕ, ◌<◌}
+use Prim.Native.Nat.{◌<◌}
 use native.Mathlib.Omega.{arith}
 use Rattle.profiles.specs.Fields.{limit_of}
 use Rattle.profiles.specs.declared.fields.Limit.{Limit}

@@ -31,13 +31,13 @@ use Rattle.report.proofs.Terms.Items.{Apart}
 use Rattle.report.specs.Order.RisingEntries.{no_entries, more_entries}
 use Rattle.report.proofs.Terms.Items.Apart.{no_items, more_items}
 use Rattle.report.specs.Putting.{Put}
-use Rattle.report.specs.Rows.{Row, ◌for◌⦂◌, ◌⦂◌, broken_at, only_if, entries_of, findings_of, Puts, ascend, BrokenIn}
+use Rattle.report.specs.Rows.{Row, ◌⦂◌, broken_at, only_if, entries_of, findings_of, Puts, ascend, BrokenIn}
 use Rattle.report.proofs.Terms.Rows.{Up, RowOk, RowsOk}
 use Rattle.report.proofs.Terms.Rows.Up.{no_heads, more_heads}
 use Rattle.report.proofs.Terms.Rows.RowsOk.{no_rows, more_rows}
 use Rattle.octets.proofs.Laws.Tests.{and_l, and_r}
 use Rattle.der.specs.declared.header.Head.{Head}
-use Rattle.profiles.specs.Judged.{judged_in, judged_by, judges}
+use Rattle.profiles.specs.Judged.{judged_by, judges}
 use Rattle.profiles.specs.declared.fields.Profile.{Profile}
 use Rattle.report.proofs.Laws.Members.{only_in, map_in, from_map, filter_in}
 use Rattle.report.proofs.Laws.Order.{none_ordered, join_ordered, wider_ordered, of_rule}

@@ -1,9 +1,8 @@
 use mathlib.Core.Path.{◌≡◌, refl, sym, ap, ◌∙◌}
 use mathlib.Core.List.{List}
-use Prim.Native.Nat.{ℕ, ◌+◌, ◌*◌, ◌-◌}
+use Prim.Native.Nat.{ℕ, ◌+◌, ◌-◌}
 use native.Mathlib.Omega.{arith}
 use lib.ListN.{length}
-use borrow.Author.Rules.{rules}
 use Rattle.retrieval.specs.Fetching.{numbered}
 use Rattle.reader.specs.Events.{events_from}
 use Rattle.reader.specs.Finding.{found_at}
@@ -16,7 +15,7 @@ pub loop-other-init : goal.loop-other-init
 loop-other-init c = (refl, refl)
 
 pub fetch_at-requires : goal.fetch_at-requires
-fetch_at-requires c = 
+fetch_at-requires c =
     let deck : List ℕ = c.args.deck.now in
     let at : ℕ = c.loop-other.at in
     let stands : (found : Found) → c.find-found.result ≡ found → found_at deck at ≡ found = λ found e. sym c.find-found.ensures ∙ e in
@@ -62,25 +61,24 @@ loop-other-preserved-in-Record c =
     )
 
 pub overflow_add-at-in-Lost : goal.overflow_add-at-in-Lost
-overflow_add-at-in-Lost c = 
+overflow_add-at-in-Lost c =
     let deck : List ℕ = c.args.deck.now in
     let at : ℕ = c.loop-other.at in
     let stands : (found : Found) → c.find-found.result ≡ found → found_at deck at ≡ found = λ found e. sym c.find-found.ensures ∙ e in
     omega (arith, lost_inside deck at _ (stands _ c.in-Lost.is))
 
 pub loop-other-smaller : goal.loop-other-smaller
-loop-other-smaller c = 
+loop-other-smaller c =
     let deck : List ℕ = c.args.deck.now in
     let at : ℕ = c.loop-other.at in
     let stands : (found : Found) → c.find-found.result ≡ found → found_at deck at ≡ found = λ found e. sym c.find-found.ensures ∙ e in
     omega (arith, lost_inside deck at _ (stands _ c.in-Lost.is))
 
 pub loop-other-preserved : goal.loop-other-preserved
-loop-other-preserved c = 
+loop-other-preserved c =
     let deck : List ℕ = c.args.deck.now in
     let at : ℕ = c.loop-other.at in
-    let stands : (found : Found) → c.find-found.result ≡ found → found_at deck at ≡ found = λ found e. sym c.find-found.ensures ∙ e in
-    (
+    let stands : (found : Found) → c.find-found.result ≡ found → found_at deck at ≡ found = λ found e. sym c.find-found.ensures ∙ e in (
       c.loop-other.invariant.0,
       sym (past_lost deck at _ _ (stands _ c.in-Lost.is)) ∙ c.loop-other.invariant.1,
     )
@@ -89,7 +87,7 @@ pub shape_of-out-in-End : goal.shape_of-out-in-End
 shape_of-out-in-End c = ap length c.loop-other.invariant.0
 
 pub returns-in-End : goal.returns-in-End
-returns-in-End c = 
+returns-in-End c =
     let deck : List ℕ = c.args.deck.now in
     let at : ℕ = c.loop-other.at in
     let stands : (found : Found) → c.find-found.result ≡ found → found_at deck at ≡ found = λ found e. sym c.find-found.ensures ∙ e in

@@ -1,5 +1,4 @@
 -- `rules::all_rules` meets its contract. Assumes nothing.
-use borrow.Author.Rules.{rules}
 use Rattle.rules.specs.Rules.{all_rules}
 use Rattle.report.proofs.Laws.Rows.{◌⟫◌}
 use Rattle.rules.proofs.all_rules.Goals as goal

@@ -1,5 +1,4 @@
 -- `rules_key::key_rules` meets its contract. Assumes nothing.
-use borrow.Author.Rules.{rules}
 use Rattle.rules_key.specs.Rules.{key_rows}
 use Rattle.report.proofs.Laws.Rows.{◌⟫◌}
 use Rattle.rules_key.proofs.key_rules.Goals as goal

@@ -3,13 +3,13 @@
 -- A name is a SEQUENCE OF SET OF SEQUENCE by the grammar. Assumes nothing.
 use mathlib.Core.Path.{◌≡◌, refl}
 use mathlib.Core.List.{List}
-use mathlib.Core.Bool.{Bool, true, not, ◌&&◌}
+use mathlib.Core.Bool.{Bool, true, not}
 use Prim.Native.Nat.{ℕ}
 use borrow.Author.Tests.{not-true}
 use Rattle.rules_subject.specs.Attributes.{country_rows, organization_rows}
 use Rattle.rules_subject.specs.CommonName.{first_common_name, is_unnamed, rule120, name_rows}
 use Rattle.rules_subject.specs.Rules.{subject_rows}
-use Rattle.octets.proofs.Laws.Tests.{and_l, and_r}
+use Rattle.octets.proofs.Laws.Tests.{and_l}
 use Rattle.der.specs.Contents.{contents_of}
 use Rattle.der.specs.Elements.{is_empty}
 use Rattle.der.specs.Members.{members_in}
@@ -39,7 +39,6 @@ use Rattle.forms.proofs.Laws.Lists.{items_in, sets_apart}
 use Rattle.report.specs.Forms.{filter, ones_of}
 use Rattle.report.specs.Order.{In}
 use Rattle.report.proofs.Terms.Items.{Apart}
-use Rattle.report.specs.Rows.{◌for◌⦂◌}
 use Rattle.report.proofs.Terms.Rows.{RowOk, RowsOk}
 use Rattle.report.proofs.Terms.Rows.RowsOk.{no_rows, more_rows}
 use Rattle.report.proofs.Laws.Order.{children_apart}

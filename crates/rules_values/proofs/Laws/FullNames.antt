@@ -2,10 +2,10 @@
 --     full_names_of        they are elements, if the point's members are
 --     full_names_apart     their starts rise
 -- Assumes nothing.
-use mathlib.Core.Path.{◌≡◌, refl, sym, ap, ◌∙◌}
+use mathlib.Core.Path.{◌≡◌, refl, sym, ap}
 use mathlib.Core.List.Memᴰ
 use mathlib.Core.List.{List}
-use mathlib.Core.Bool.{Bool, true, false, cond, ◌&&◌}
+use mathlib.Core.Bool.{Bool, true, false, cond}
 use Prim.Native.Nat.{ℕ, ◌≤◌, ◌<◌}
 use native.Mathlib.Nat.{le_refl}
 use native.Mathlib.Omega.{arith}
@@ -20,7 +20,6 @@ use Rattle.der.proofs.Laws.Header.{head_body, head_narrow}
 use Rattle.der.proofs.Laws.Children.{children_done, children_next}
 use Rattle.locations.specs.Points.{has_full_name, full_name_of}
 use Rattle.certificate.proofs.Laws.Inside.{between_head, between_first}
-use Rattle.facts.specs.Elements.{Element}
 use Rattle.facts.proofs.Laws.Members.{AllMembers, here, among, members_by}
 use Rattle.forms.specs.Lists.{holder_in, items_within}
 use Rattle.forms.specs.declared.nests.Nest.TheVariants.{Point}

@@ -1,5 +1,4 @@
 -- `rules_values::value_rules` meets its contract. Assumes nothing.
-use borrow.Author.Rules.{rules}
 use Rattle.rules_values.specs.Rules.{value_rows}
 use Rattle.certificate.specs.Slots.{numbers_from}
 use Rattle.report.proofs.Laws.Rows.{◌⟫◌}
@@ -8,7 +7,7 @@ use Rattle.rules_values.proofs.value_rules.Goals as goal
 
 pub returns : goal.returns
 unfolding value_rows numbers_from
-returns c = 
+returns c =
     rw (← c.slots_in-slots.ensures, ← c.issuer_in-i.ensures, ← c.key_in-key.ensures)
     (c.identifier_rules-first.ensures
     ⟫ c.usage_rules-second.ensures

@@ -6,7 +6,6 @@ use mathlib.Core.List.{List, [], ◌++◌}
 use mathlib.Core.Bool.{Bool, true, false, cond, ◌||◌}
 use Prim.Native.Nat.{ℕ, zero, suc, ◌+◌, ◌-◌, ◌%◌, ◌≤◌}
 use native.Mathlib.Omega.{arith}
-use lib.ListN.{length}
 use lib.Dec.{leb}
 use Rattle.trees.specs.Trees.{Tree, Trees, identifier_octet, element, encode, encode_all, LengthOk, Good, AllGood, height, height_all}
 use Rattle.trees.specs.Reading.{tag_of, trees_of, tree_of}

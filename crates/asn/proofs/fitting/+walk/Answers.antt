@@ -1,5 +1,5 @@
 use mathlib.Core.Bool.{not}
-use mathlib.Core.Path.{◌≡◌, sym, ap, ◌∙◌}
+use mathlib.Core.Path.{sym, ap, ◌∙◌}
 use native.Mathlib.Omega.{arith}
 use Rattle.asn.specs.Workings.Table.{slots_at}
 use Rattle.asn.proofs.Laws.Steps.{First, first_inside, stands_not, stands, members_stand, members_not, all_stand}

@@ -1,11 +1,9 @@
 -- `asn::fitting::end_before` meets its contract: what the fields that are left lack is what those from row k on lack. Assumes nothing.
-use mathlib.Core.Path.{◌≡◌, refl, sym, ◌∙◌}
-use Prim.Native.Nat.{◌-◌, ◌<◌}
-use native.Mathlib.Omega.{arith}
+use mathlib.Core.Path.{◌≡◌}
+use Prim.Native.Nat.{◌-◌}
 use lib.ListN.{length}
 use Rattle.asn.specs.Workings.Choosing.{lacking}
 use Rattle.asn.specs.Workings.Table.{slots_at}
-use Rattle.asn.proofs.Laws.Steps.{in_slots, nothing_lacks, one_lacks, lacks_next}
 use Rattle.asn.proofs.fitting.end_before.Given as goal
 
 abbrev pub invariant-loop-k : goal.invariant-loop-k

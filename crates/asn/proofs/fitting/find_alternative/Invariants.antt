@@ -1,11 +1,9 @@
 -- `asn::fitting::find_alternative` meets its contract: the alternatives that are left have the one that is looked for. Assumes nothing.
-use mathlib.Core.Path.{◌≡◌, refl, sym, ◌∙◌}
-use Prim.Native.Nat.{◌-◌, ◌<◌}
-use native.Mathlib.Omega.{arith}
+use mathlib.Core.Path.{◌≡◌}
+use Prim.Native.Nat.{◌-◌}
 use lib.ListN.{length}
 use Rattle.asn.specs.Workings.Choosing.{alternative_for}
 use Rattle.asn.specs.Workings.Table.{form_at}
-use Rattle.asn.proofs.Laws.Steps.{taken_here, taken_later, in_rows}
 use Rattle.asn.proofs.fitting.find_alternative.Given as goal
 
 abbrev pub invariant-loop-n : goal.invariant-loop-n

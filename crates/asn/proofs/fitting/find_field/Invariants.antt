@@ -1,11 +1,9 @@
 -- `asn::fitting::find_field` meets its contract: the fields that are left have the one that is looked for. Assumes nothing.
-use mathlib.Core.Path.{◌≡◌, refl, sym, ◌∙◌}
-use Prim.Native.Nat.{◌-◌, ◌<◌}
-use native.Mathlib.Omega.{arith}
+use mathlib.Core.Path.{◌≡◌}
+use Prim.Native.Nat.{◌-◌}
 use lib.ListN.{length}
 use Rattle.asn.specs.Workings.Choosing.{field_for}
 use Rattle.asn.specs.Workings.Table.{slots_at}
-use Rattle.asn.proofs.Laws.Steps.{no_field, field_found, field_later, in_slots}
 use Rattle.asn.proofs.fitting.find_field.Given as goal
 
 abbrev pub invariant-loop-k : goal.invariant-loop-k

@@ -1,6 +1,5 @@
 -- `asn::fitting::only_element` meets its contract: the tables are those that specs/Workings/Table.antt has. Assumes nothing.
 use mathlib.Core.Path.{◌≡◌, ap, ◌∙◌}
-use borrow.Author.Rules.{rules}
 use Rattle.asn.specs.Grammar.{Slots, follows}
 use Rattle.asn.specs.Module.{value_of}
 use Rattle.asn.specs.Workings.Table.{alone, slots_at}
@@ -15,7 +14,7 @@ walk-requires c = tables_right
 
 pub returns : goal.returns
 unfolding roots
-returns c = 
+returns c =
     let a = c.args in
     let root : slots_at c.row_at-root.result ≡ alone (value_of a.slot) =
     root_row roots roots_right none_right a.slot c.row_at-root.result c.row_at-root.ensures.0 in

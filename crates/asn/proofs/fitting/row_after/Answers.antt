@@ -1,5 +1,4 @@
 -- `asn::fitting::row_after` meets its contract. Assumes nothing.
-use borrow.Author.Rules.{rules}
 use borrow.Author.Tests.{lt-ltb, le-ltb}
 use Rattle.asn.proofs.fitting.row_after.Goals as goal
 

@@ -2,7 +2,6 @@
 use mathlib.Core.Path.{sym}
 use native.Mathlib.Omega.{arith}
 use lib.ListN.{get_or-eq_default}
-use borrow.Author.Rules.{rules}
 use Rattle.asn.proofs.fitting.row_at.Goals as goal
 
 pub returns-then-n-table : goal.returns-then-n-table

@@ -9,6 +9,6 @@ pub returns-then-row-h : goal.returns-then-row-h
 returns-then-row-h c = let a = c.args in judged_before (eqb (a.row / 128 % 2) 0) (eqb a.h.tag 49) _ c.if-row-h.true
 
 pub returns : goal.returns
-returns c = 
+returns c =
     let a = c.args in
     c.ascending.ensures ∙ judged_now (eqb (a.row / 128 % 2) 0) (eqb a.h.tag 49) _ c.if-row-h.false

@@ -1,5 +1,4 @@
 -- `asn::leaf::bit_set` meets its contract. Assumes nothing.
-use borrow.Author.Rules.{rules}
 use Rattle.asn.proofs.Laws.Leaf.{no_bit}
 use Rattle.asn.proofs.leaf.bit_set.Goals as goal
 

@@ -5,6 +5,6 @@ use Rattle.octets.specs.Octets.{octet_at}
 use Rattle.asn.proofs.leaf.last_octet.Goals as goal
 
 pub returns : goal.returns
-returns c = 
+returns c =
     let a = c.args in
     c.octet_past.ensures ∙ ap (λ (k : ℕ). octet_at a.s.now (a.body + k)) c.minus.ensures

@@ -44,7 +44,7 @@ pub returns-in-12 : goal.returns-in-12
 returns-in-12 c = rw c.in-12.is c.positive_ok.ensures
 
 pub returns-in_default : goal.returns-in_default
-returns-in_default c = 
+returns-in_default c =
     let a = c.args in
     let other =
     test_other a.test c.in_default.in_default-own.rest.0.0.0.0.0.0.0.0.0.0.1 c.in_default.in_default-own.rest.0.0.0.0.0.0.0.0.0.1 c.in_default.in_default-own.rest.0.0.0.0.0.0.0.0.1

@@ -3,6 +3,6 @@ use Rattle.asn.proofs.Laws.Leaf.{positive_law}
 use Rattle.asn.proofs.leaf.positive_ok.Goals as goal
 
 pub returns : goal.returns
-returns c = 
+returns c =
     let a = c.args in
     positive_law a.s.now a.body a.n c.octet-first.result c.natural_ok.result c.octet-first.ensures c.natural_ok.ensures

@@ -1,5 +1,4 @@
 -- `asn::leaf::time_ok` meets its contract. Assumes nothing.
-use borrow.Author.Rules.{rules}
 use Rattle.asn.proofs.leaf.time_ok.Goals as goal
 
 pub returns-in-Is : goal.returns-in-Is

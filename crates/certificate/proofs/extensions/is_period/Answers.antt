@@ -1,5 +1,4 @@
 -- `certificate::is_period` meets its contract. Assumes nothing.
-use borrow.Author.Rules.{rules}
 use Rattle.der.specs.Oids.{sevens, subidentifier, subidentifiers, oid}
 use Rattle.certificate.proofs.extensions.is_period.Goals as goal
 

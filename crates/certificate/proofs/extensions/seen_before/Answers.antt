@@ -1,6 +1,6 @@
 use Prim.Native.Nat.{◌-◌}
 use Rattle.certificate.specs.Extensions.{same_identifier, seen_before}
-use Rattle.der.proofs.Laws.Searching.{nearer, Search, search_start, search_true, search_next, search_false}
+use Rattle.der.proofs.Laws.Searching.{nearer, search_start, search_true, search_next, search_false}
 use Rattle.certificate.proofs.extensions.seen_before.Goals as goal
 
 pub returns-then-same_identifier : goal.returns-then-same_identifier

@@ -1,7 +1,7 @@
 -- `certificate::seen_before` meets its contract. Assumes nothing.
 use Prim.Native.Nat.{◌-◌}
-use Rattle.certificate.specs.Extensions.{same_identifier, seen_before}
-use Rattle.der.proofs.Laws.Searching.{nearer, Search, search_start, search_true, search_next, search_false}
+use Rattle.certificate.specs.Extensions.{same_identifier}
+use Rattle.der.proofs.Laws.Searching.{Search}
 use Rattle.certificate.proofs.extensions.seen_before.Given as goal
 
 abbrev pub invariant-loop-i : goal.invariant-loop-i

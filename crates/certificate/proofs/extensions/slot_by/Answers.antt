@@ -30,7 +30,7 @@ pub returns-in-30 : goal.returns-in-30
 returns-in-30 c = rw c.in-30.is
 
 pub returns-in_default : goal.returns-in_default
-returns-in_default c = 
+returns-in_default c =
     rw (
       ne_eqb _ 35 c.in_default.in_default-own.rest.0.0.0.0.0.0.0.0.1,
       ne_eqb _ 19 c.in_default.in_default-own.rest.0.0.0.0.0.0.0.1,

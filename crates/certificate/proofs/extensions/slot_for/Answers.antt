@@ -1,22 +1,19 @@
 -- `certificate::extensions::slot_for` meets its contract. Assumes nothing.
-use mathlib.Core.Path.{◌≡◌, refl, sym, ◌∙◌}
-use mathlib.Core.Bool.{Bool, true, false, cond}
-use borrow.Author.Rules.{rules}
-use Rattle.certificate.specs.Extensions.{slot_for}
-use Rattle.octets.specs.Octets.{octets_from}
+use mathlib.Core.Path.{refl, sym, ◌∙◌}
+use mathlib.Core.Bool.{true, false, cond}
 use Rattle.der.specs.Oids.{sevens, subidentifier, subidentifiers, oid}
 use Rattle.certificate.proofs.Laws.Extensions.{slot_three, slot_other}
 use Rattle.certificate.proofs.extensions.slot_for.Goals as goal
 
 pub returns-then-a-b : goal.returns-then-a-b
-returns-then-a-b c = 
+returns-then-a-b c =
     let a = c.args in
     let three = slot_three a.s.now a.body a.n _ _ _ c.if-n-eq3.true c.octet-a.ensures
     c.octet_past-b.ensures c.octet_past.ensures in
     c.slot_by.ensures ∙ sym (rw c.if-a-b.true at three)
 
 pub returns-then-n-eq3 : goal.returns-then-n-eq3
-returns-then-n-eq3 c = 
+returns-then-n-eq3 c =
     let a = c.args in
     let three = slot_three a.s.now a.body a.n _ _ _ c.if-n-eq3.true c.octet-a.ensures
     c.octet_past-b.ensures refl in
@@ -24,7 +21,7 @@ returns-then-n-eq3 c =
 
 pub returns-then-equals : goal.returns-then-equals
 unfolding oid subidentifiers subidentifier sevens
-returns-then-equals c = 
+returns-then-equals c =
     let a = c.args in
     let other = slot_other a.s.now a.body a.n _ _ c.if-n-eq3.false c.equals.ensures refl in
     sym (rw c.if-equals.true at other)

@@ -6,6 +6,6 @@ use Rattle.certificate.proofs.Laws.Members.{contents_read}
 use Rattle.certificate.proofs.extensions.slot_of.Goals as goal
 
 pub returns : goal.returns
-returns c = 
+returns c =
     let a = c.args in
     c.slot_for.ensures ∙ ap slot_for (contents_read a.s.now (first_in a.s.now a.h) _ _ c.first_in-i.ensures c.minus.ensures)

@@ -7,6 +7,6 @@ use Rattle.certificate.proofs.fields.time_in.Goals as goal
 
 pub returns : goal.returns
 unfolding time_in
-returns c = 
+returns c =
     let a = c.args in
     c.time_is.ensures ∙ ap time_is (c.read_time.ensures ∙ ap (time_of a.h.tag) (contents_read a.s.now a.h a.h _ refl c.minus.ensures))

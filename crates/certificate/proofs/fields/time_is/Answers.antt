@@ -1,5 +1,4 @@
 -- `certificate::fields::time_is` meets its contract. Assumes nothing.
-use borrow.Author.Rules.{rules}
 use Rattle.certificate.proofs.fields.time_is.Goals as goal
 
 pub returns-in-Bad : goal.returns-in-Bad

@@ -1,5 +1,4 @@
 -- `certificate::key::kind_of` meets its contract. Assumes nothing.
-use borrow.Author.Rules.{rules}
 use Rattle.certificate.specs.Key.{kind_of}
 use Rattle.der.specs.Oids.{sevens, subidentifier, subidentifiers, oid}
 use Rattle.certificate.proofs.key.kind_of.Goals as goal

@@ -1,11 +1,6 @@
 -- `certificate::slots::first_extensions` meets its contract. The invariant: the first extensions and repeats of what is passed. Assumes nothing.
-use mathlib.Core.Path.{refl}
-use Prim.Native.Nat.{◌-◌, ◌<◌}
-use native.Mathlib.Omega.{arith}
-use Rattle.certificate.specs.Slots.{slot_count}
-use Rattle.der.proofs.Laws.Searching.{nearer}
-use Rattle.certificate.proofs.Laws.Extensions.{slot_below}
-use Rattle.certificate.proofs.Laws.Slots.{unread, Seen, seen_none, seen_next, seen_all}
+use Prim.Native.Nat.{◌-◌}
+use Rattle.certificate.proofs.Laws.Slots.{Seen}
 use Rattle.certificate.proofs.slots.first_extensions.Given as goal
 
 abbrev pub invariant-loop-i : goal.invariant-loop-i

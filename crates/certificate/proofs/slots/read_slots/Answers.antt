@@ -1,9 +1,6 @@
-use mathlib.Core.Path.{◌≡◌}
-use Prim.Native.Nat.{ℕ, ◌-◌, ◌≤◌}
+use Prim.Native.Nat.{◌-◌}
 use native.Mathlib.Omega.{arith}
-use lib.ListN.{get_or}
-use Rattle.certificate.specs.Slots.{slot_count, by_slot}
-use Rattle.certificate.proofs.Laws.Slots.{unread, below, filled_none, filled_next, filled_all}
+use Rattle.certificate.proofs.Laws.Slots.{filled_none, filled_next, filled_all}
 use Rattle.certificate.proofs.Laws.Values.{slot_or, slots_law}
 use Rattle.certificate.proofs.slots.read_slots.Goals as goal
 
@@ -14,7 +11,7 @@ pub loop-slot-preserved : goal.loop-slot-preserved
 loop-slot-preserved c = (omega arith, filled_next _ _ c.loop-slot.each c.loop-slot.slot _ c.loop-slot-test.true c.slot_or.ensures c.loop-slot.invariant.1)
 
 pub returns : goal.returns
-returns c = 
+returns c =
     let a = c.args in
     slots_law a.s.now a.list _ _ _ _ c.first_extensions-found.ensures c.missing.ensures c.empty_slot-none.ensures
     (filled_all _ _ c.loop-slot.each c.loop-slot.slot c.loop-slot-test.false c.loop-slot.invariant.1)

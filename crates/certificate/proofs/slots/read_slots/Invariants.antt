@@ -1,11 +1,10 @@
 -- `certificate::read_slots` meets its contract. The invariant: the slots passed are as they should be. Assumes nothing.
 use mathlib.Core.Path.{◌≡◌}
 use Prim.Native.Nat.{ℕ, ◌-◌, ◌≤◌}
-use native.Mathlib.Omega.{arith}
 use lib.ListN.{get_or}
 use Rattle.certificate.specs.Slots.{slot_count, by_slot}
-use Rattle.certificate.proofs.Laws.Slots.{unread, below, filled_none, filled_next, filled_all}
-use Rattle.certificate.proofs.Laws.Values.{slot_or, slots_law}
+use Rattle.certificate.proofs.Laws.Slots.{unread, below}
+use Rattle.certificate.proofs.Laws.Values.{slot_or}
 use Rattle.certificate.proofs.slots.read_slots.Given as goal
 
 abbrev pub invariant-loop-slot : goal.invariant-loop-slot

@@ -1,7 +1,6 @@
 use mathlib.Core.Path.{◌∙◌}
 use Prim.Native.Nat.{◌-◌}
-use Rattle.forms.specs.Kinds.{of_kind}
-use Rattle.der.proofs.Laws.Searching.{nearer, Search, search_start, search_found, search_next, search_end}
+use Rattle.der.proofs.Laws.Searching.{nearer, search_start, search_found, search_next, search_end}
 use Rattle.forms.proofs.firsts.first.Goals as goal
 
 pub returns-then-is_of_kind : goal.returns-then-is_of_kind

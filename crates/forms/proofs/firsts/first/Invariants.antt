@@ -1,8 +1,7 @@
 -- `forms::firsts::first` meets its contract. Assumes nothing.
-use mathlib.Core.Path.{◌∙◌}
 use Prim.Native.Nat.{◌-◌}
 use Rattle.forms.specs.Kinds.{of_kind}
-use Rattle.der.proofs.Laws.Searching.{nearer, Search, search_start, search_found, search_next, search_end}
+use Rattle.der.proofs.Laws.Searching.{Search}
 use Rattle.forms.proofs.firsts.first.Given as goal
 
 abbrev pub invariant-loop-at : goal.invariant-loop-at

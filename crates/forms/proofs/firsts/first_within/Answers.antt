@@ -1,9 +1,6 @@
-use mathlib.Core.Path.{◌≡◌, refl, sym, ◌∙◌}
+use mathlib.Core.Path.{refl, sym, ◌∙◌}
 use Prim.Native.Nat.{◌-◌}
-use Rattle.forms.specs.Kinds.{of_kind}
-use Rattle.forms.specs.Lists.{items_within}
 use Rattle.forms.proofs.Laws.Lists.{within_found, within_passed, within_done}
-use Rattle.der.specs.Elements.{first_of}
 use Rattle.der.proofs.Laws.Searching.{nearer}
 use Rattle.forms.proofs.firsts.first_within.Goals as goal
 
@@ -11,7 +8,7 @@ pub loop-at-init : goal.loop-at-init
 loop-at-init c = refl
 
 pub returns-then-item : goal.returns-then-item
-returns-then-item c = 
+returns-then-item c =
     sym (c.loop-at.invariant ∙ within_found _ _ _ _ _ _ _ _ c.loop-at-test.true c.head_at-h.ensures c.holder_in-holder.ensures
     c.first-item.ensures c.if-item.true)
 
@@ -19,7 +16,7 @@ pub loop-at-smaller : goal.loop-at-smaller
 loop-at-smaller c = nearer _ _ _ _ c.loop-at-test.true c.head_at-h.ensures
 
 pub loop-at-preserved : goal.loop-at-preserved
-loop-at-preserved c = 
+loop-at-preserved c =
     c.loop-at.invariant ∙ within_passed _ _ _ _ _ _ _ _ c.loop-at-test.true c.head_at-h.ensures c.holder_in-holder.ensures
     c.first-item.ensures c.if-item.false
 

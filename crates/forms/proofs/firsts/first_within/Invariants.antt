@@ -1,12 +1,10 @@
 -- `forms::firsts::first_within` meets its contract. The invariant: the answer is that of the items within the elements from `at` on.
 -- Assumes nothing.
-use mathlib.Core.Path.{◌≡◌, refl, sym, ◌∙◌}
+use mathlib.Core.Path.{◌≡◌}
 use Prim.Native.Nat.{◌-◌}
 use Rattle.forms.specs.Kinds.{of_kind}
 use Rattle.forms.specs.Lists.{items_within}
-use Rattle.forms.proofs.Laws.Lists.{within_found, within_passed, within_done}
 use Rattle.der.specs.Elements.{first_of}
-use Rattle.der.proofs.Laws.Searching.{nearer}
 use Rattle.forms.proofs.firsts.first_within.Given as goal
 
 abbrev pub invariant-loop-at : goal.invariant-loop-at

@@ -5,6 +5,6 @@ use Rattle.forms.proofs.Laws.Lists.{turned}
 use Rattle.forms.proofs.firsts.none_of.Goals as goal
 
 pub returns : goal.returns
-returns c = 
+returns c =
     let a = c.args in
     rw (c.is_none.ensures, c.first.ensures) (turned _ _ (any_by_first (of_kind a.kind a.p a.s.now) a.s.now a.from a.to))

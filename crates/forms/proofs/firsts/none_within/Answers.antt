@@ -4,7 +4,7 @@ use Rattle.forms.proofs.Laws.Lists.{within_any, turned}
 use Rattle.forms.proofs.firsts.none_within.Goals as goal
 
 pub returns : goal.returns
-returns c = 
+returns c =
     let a = c.args in
     rw (c.is_none.ensures, c.first_within.ensures)
     (turned _ _ (within_any a.nest (of_kind a.kind a.p a.s.now) a.s.now a.from a.to))

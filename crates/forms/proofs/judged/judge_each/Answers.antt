@@ -1,6 +1,5 @@
 -- `forms::judged::judge_each` meets its contract. Assumes nothing.
 use mathlib.Core.Path.{sym, ◌∙◌}
-use borrow.Author.Rules.{rules}
 use Rattle.report.proofs.Laws.Rows.{puts_judged, puts_unjudged, each_is}
 use Rattle.forms.proofs.judged.judge_each.Goals as goal
 

@@ -1,5 +1,4 @@
 -- `forms::kinds::is_of_kind` meets its contract: an arm a kind. Assumes nothing.
-use borrow.Author.Rules.{rules}
 use Rattle.forms.proofs.kinds.is_of_kind.Goals as goal
 
 pub returns-in-Attribute : goal.returns-in-Attribute

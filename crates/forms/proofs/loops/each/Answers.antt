@@ -1,5 +1,4 @@
 -- `forms::loops::each` meets its contract: each item is at place 0 or behind it. Assumes nothing.
-use borrow.Author.Rules.{rules}
 use Rattle.report.proofs.Laws.First.{each_all}
 use Rattle.forms.proofs.loops.each.Goals as goal
 

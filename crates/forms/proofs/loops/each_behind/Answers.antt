@@ -1,16 +1,13 @@
 use Prim.Native.Nat.{◌-◌}
-use Rattle.forms.specs.Kinds.{of_kind}
-use Rattle.report.specs.Entries.{noted}
-use Rattle.report.specs.Workings.Forms.{is_behind}
 use Rattle.der.proofs.Laws.Searching.{nearer}
-use Rattle.report.proofs.Laws.Loops.{Turn, turn_start, turn_next, turn_end, each_gathered}
+use Rattle.report.proofs.Laws.Loops.{turn_start, turn_next, turn_end, each_gathered}
 use Rattle.forms.proofs.loops.each_behind.Goals as goal
 
 pub loop-at-smaller : goal.loop-at-smaller
 loop-at-smaller c = nearer _ _ _ _ c.loop-at-test.true c.head_at-item.ensures
 
 pub loop-at-preserved : goal.loop-at-preserved
-loop-at-preserved c = 
+loop-at-preserved c =
     turn_next _ c.loop-at-test.true c.head_at-item.ensures c.loop-at.invariant
     (rw (← c.is_of_kind-bad.ensures) c.note-count.ensures)
 

@@ -3,8 +3,7 @@ use Prim.Native.Nat.{◌-◌}
 use Rattle.forms.specs.Kinds.{of_kind}
 use Rattle.report.specs.Entries.{noted}
 use Rattle.report.specs.Workings.Forms.{is_behind}
-use Rattle.der.proofs.Laws.Searching.{nearer}
-use Rattle.report.proofs.Laws.Loops.{Turn, turn_start, turn_next, turn_end, each_gathered}
+use Rattle.report.proofs.Laws.Loops.{Turn}
 use Rattle.forms.proofs.loops.each_behind.Given as goal
 
 abbrev pub invariant-loop-at : goal.invariant-loop-at

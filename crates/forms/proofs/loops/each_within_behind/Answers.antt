@@ -1,18 +1,15 @@
 use Prim.Native.Nat.{◌-◌}
-use Rattle.forms.specs.Kinds.{of_kind}
-use Rattle.forms.specs.Lists.{holder_in, items_within}
+use Rattle.forms.specs.Lists.{items_within}
 use Rattle.forms.proofs.Laws.Lists.{nested_joined}
-use Rattle.der.specs.Members.{members_in}
-use Rattle.report.specs.Workings.Forms.{each, is_behind}
 use Rattle.der.proofs.Laws.Searching.{nearer}
-use Rattle.report.proofs.Laws.Loops.{Turn, turn_start, turn_next, turn_end}
+use Rattle.report.proofs.Laws.Loops.{turn_start, turn_next, turn_end}
 use Rattle.forms.proofs.loops.each_within_behind.Goals as goal
 
 pub loop-at-smaller : goal.loop-at-smaller
 loop-at-smaller c = nearer _ _ _ _ c.loop-at-test.true c.head_at-h.ensures
 
 pub loop-at-preserved : goal.loop-at-preserved
-loop-at-preserved c = 
+loop-at-preserved c =
     turn_next _ c.loop-at-test.true c.head_at-h.ensures c.loop-at.invariant
     (rw (← c.holder_in-holder.ensures) c.each_behind-count.ensures)
 

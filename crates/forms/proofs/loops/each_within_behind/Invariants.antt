@@ -1,12 +1,10 @@
 -- `forms::loops::each_within_behind` meets its contract. Assumes nothing.
 use Prim.Native.Nat.{◌-◌}
 use Rattle.forms.specs.Kinds.{of_kind}
-use Rattle.forms.specs.Lists.{holder_in, items_within}
-use Rattle.forms.proofs.Laws.Lists.{nested_joined}
+use Rattle.forms.specs.Lists.{holder_in}
 use Rattle.der.specs.Members.{members_in}
 use Rattle.report.specs.Workings.Forms.{each, is_behind}
-use Rattle.der.proofs.Laws.Searching.{nearer}
-use Rattle.report.proofs.Laws.Loops.{Turn, turn_start, turn_next, turn_end}
+use Rattle.report.proofs.Laws.Loops.{Turn}
 use Rattle.forms.proofs.loops.each_within_behind.Given as goal
 
 abbrev pub invariant-loop-at : goal.invariant-loop-at

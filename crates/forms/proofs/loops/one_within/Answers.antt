@@ -1,5 +1,4 @@
 -- `forms::loops::one_within` meets its contract. Assumes nothing.
-use borrow.Author.Rules.{rules}
 use Rattle.forms.proofs.Laws.Lists.{one_joined}
 use Rattle.forms.proofs.loops.one_within.Goals as goal
 

@@ -1,5 +1,4 @@
 -- `forms::nests::holder_within` meets its contract: an arm a nest. Assumes nothing.
-use borrow.Author.Rules.{rules}
 use Rattle.forms.proofs.nests.holder_within.Goals as goal
 
 pub returns-in-Set : goal.returns-in-Set

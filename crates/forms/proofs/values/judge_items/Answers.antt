@@ -1,10 +1,9 @@
 -- `forms::values::judge_items` meets its contract. Assumes nothing.
-use borrow.Author.Rules.{rules}
 use Rattle.forms.proofs.Laws.Values.{puts_good, puts_none}
 use Rattle.forms.proofs.values.judge_items.Goals as goal
 
 pub returns-then-v : goal.returns-then-v
-returns-then-v c = 
+returns-then-v c =
     let a = c.args in
     puts_good a.p a.rule a.v _ c.if-v.true c.judge_each.ensures
 

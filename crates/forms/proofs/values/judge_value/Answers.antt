@@ -1,9 +1,8 @@
 -- `forms::values::judge_value` meets its contract. Assumes nothing.
-use borrow.Author.Rules.{rules}
 use Rattle.forms.proofs.Laws.Values.{good_at}
 use Rattle.forms.proofs.values.judge_value.Goals as goal
 
 pub returns : goal.returns
-returns c = 
+returns c =
     let a = c.args in
     rw (← good_at a.v a.bad a.v.holder) c.judge.ensures

@@ -1,10 +1,7 @@
 -- `hosts::hosts::has_octet` meets its contract. The invariant: the answer is that of the octets from the kth on. Assumes nothing.
-use mathlib.Core.Path.{◌≡◌, sym, ◌∙◌}
+use mathlib.Core.Path.{◌≡◌}
 use Prim.Native.Nat.{◌+◌, ◌-◌}
-use native.Mathlib.Nat.{add-zero, sub-zero}
-use native.Mathlib.Omega.{arith}
 use Rattle.octets.specs.Octets.{is_one_of, octets_from}
-use Rattle.hosts.proofs.Laws.Hosts.{has_done, has_found, has_next}
 use Rattle.hosts.proofs.hosts.has_octet.Given as goal
 
 abbrev pub invariant-loop-k : goal.invariant-loop-k

@@ -8,13 +8,13 @@ use Rattle.hosts.proofs.Laws.Tests.{behind, without}
 use Rattle.hosts.proofs.hosts.has_underscore.Goals as goal
 
 pub returns-then-is_dns_name : goal.returns-then-is_dns_name
-returns-then-is_dns_name c = 
+returns-then-is_dns_name c =
     let a = c.args in
     behind (is_dns_name a.h) (is_one_of 95 (contents_of a.s.now a.h)) c.has_octet.result
     (sym c.is_dns_name.ensures ∙ c.if-is_dns_name.true) (c.has_octet.ensures ∙ ap
     (λ (n : ℕ). is_one_of 95 (octets_from a.s.now a.h.body n)) c.minus.ensures)
 
 pub returns : goal.returns
-returns c = 
+returns c =
     let a = c.args in
     without (is_dns_name a.h) (is_one_of 95 (contents_of a.s.now a.h)) (sym c.is_dns_name.ensures ∙ c.if-is_dns_name.false)

@@ -1,5 +1,4 @@
 -- `hosts::hosts::label_octet` meets its contract. Assumes nothing.
-use borrow.Author.Rules.{rules}
 use Rattle.hosts.proofs.hosts.label_octet.Goals as goal
 
 pub returns : goal.returns

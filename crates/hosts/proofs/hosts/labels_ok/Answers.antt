@@ -1,23 +1,20 @@
-use mathlib.Core.Path.{◌≡◌, sym, ap, ◌∙◌}
+use mathlib.Core.Path.{sym, ap, ◌∙◌}
 use mathlib.Core.Bool.{Bool, ◌&&◌, ◌||◌}
-use Prim.Native.Nat.{ℕ, ◌+◌, ◌-◌, ◌≤◌}
+use Prim.Native.Nat.{ℕ, ◌+◌, ◌-◌}
 use native.Mathlib.Nat.{add-zero, sub-zero}
 use native.Mathlib.Omega.{arith}
-use lib.ListN.{length}
-use lib.Dec.{leb, eqb}
-use borrow.Author.Tests.{not-true, not-false}
-use Rattle.hosts.specs.Hosts.{labels_of, labels_ok}
+use lib.Dec.{eqb}
 use Rattle.hosts.proofs.Laws.Hosts.{scanned, scan_labels, scan_done, scan_bad, scan_next, size_grows}
 use Rattle.octets.specs.Octets.{octets_from}
 use Rattle.hosts.proofs.hosts.labels_ok.Goals as goal
 
 pub loop-k-init : goal.loop-k-init
-loop-k-init c = 
+loop-k-init c =
     let a = c.args in
     (omega arith, simp (add-zero, sub-zero) (scan_labels (octets_from a.s.now a.body a.n)))
 
 pub returns-then-not-may_follow : goal.returns-then-not-may_follow
-returns-then-not-may_follow c = 
+returns-then-not-may_follow c =
     let a = c.args in
     sym (c.loop-k.invariant.1 ∙ scan_bad a.s.now c.loop-k.size c.loop-k.last c.loop-k.dotted a.body a.n c.loop-k.k
     c.octet_past-b.result c.may_follow.result c.loop-k-test.true c.octet_past-b.ensures
@@ -27,7 +24,7 @@ pub size_after-size-requires : goal.size_after-size-requires
 size_after-size-requires c = omega (arith, c.loop-k.invariant.0)
 
 pub loop-k-preserved : goal.loop-k-preserved
-loop-k-preserved c = 
+loop-k-preserved c =
     let a = c.args in
     let b = c.octet_past-b.result in (
       size_grows c.loop-k.size b c.loop-k.k c.size_after-size.result c.size_after-size.ensures c.loop-k.invariant.0,
@@ -39,7 +36,7 @@ loop-k-preserved c =
     )
 
 pub returns : goal.returns
-returns c = 
+returns c =
     let a = c.args in
     ap (λ (b : Bool). c.loop-k.dotted && b) c.may_end.ensures ∙ sym
     (c.loop-k.invariant.1 ∙ scan_done a.s.now c.loop-k.size c.loop-k.last c.loop-k.dotted a.body a.n c.loop-k.k

@@ -1,15 +1,12 @@
 -- `hosts::hosts::labels_ok` meets its contract. The invariant: the answer is that of the pass from the kth octet on, and the label so far is no
 -- longer than the octets behind. Assumes nothing.
-use mathlib.Core.Path.{◌≡◌, sym, ap, ◌∙◌}
-use mathlib.Core.Bool.{Bool, ◌&&◌, ◌||◌}
-use Prim.Native.Nat.{ℕ, ◌+◌, ◌-◌, ◌≤◌}
-use native.Mathlib.Nat.{add-zero, sub-zero}
-use native.Mathlib.Omega.{arith}
+use mathlib.Core.Path.{◌≡◌}
+use mathlib.Core.Bool.{◌&&◌}
+use Prim.Native.Nat.{◌+◌, ◌-◌, ◌≤◌}
 use lib.ListN.{length}
-use lib.Dec.{leb, eqb}
-use borrow.Author.Tests.{not-true, not-false}
+use lib.Dec.{leb}
 use Rattle.hosts.specs.Hosts.{labels_of, labels_ok}
-use Rattle.hosts.proofs.Laws.Hosts.{scanned, scan_labels, scan_done, scan_bad, scan_next, size_grows}
+use Rattle.hosts.proofs.Laws.Hosts.{scanned}
 use Rattle.octets.specs.Octets.{octets_from}
 use Rattle.hosts.proofs.hosts.labels_ok.Given as goal
 

@@ -11,13 +11,13 @@ use Rattle.hosts.proofs.Laws.Tests.{behind, without}
 use Rattle.hosts.proofs.hosts.no_host.Goals as goal
 
 pub returns-then-is_dns_name : goal.returns-then-is_dns_name
-returns-then-is_dns_name c = 
+returns-then-is_dns_name c =
     let a = c.args in
     let host = c.host_name.ensures ∙ ap (λ (n : ℕ). host_of (octets_from a.s.now a.h.body n)) c.minus.ensures in
     behind (is_dns_name a.h) (not (is_plain (host_of (contents_of a.s.now a.h)))) (not c.is_plain.result)
     (sym c.is_dns_name.ensures ∙ c.if-is_dns_name.true) (ap not (c.is_plain.ensures ∙ ap (λ (x : Host). is_plain x) host))
 
 pub returns : goal.returns
-returns c = 
+returns c =
     let a = c.args in
     without (is_dns_name a.h) (not (is_plain (host_of (contents_of a.s.now a.h)))) (sym c.is_dns_name.ensures ∙ c.if-is_dns_name.false)

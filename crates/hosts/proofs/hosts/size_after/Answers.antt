@@ -1,5 +1,4 @@
 -- `hosts::hosts::size_after` meets its contract. Assumes nothing.
-use borrow.Author.Rules.{rules}
 use borrow.Author.Tests.{eq-eqb, ne_eqb}
 use Rattle.hosts.proofs.hosts.size_after.Goals as goal
 

@@ -1,19 +1,12 @@
 -- `hosts::some_same` meets its contract. The invariants: the answer is that of the names from i on; and, within a name, that of the octets from
 -- the kth on, or else of the names after it. Assumes nothing.
-use mathlib.Core.Path.{◌≡◌, refl, sym, ap, ◌∙◌}
-use mathlib.Core.List.{List}
+use mathlib.Core.Path.{◌≡◌}
 use mathlib.Core.Bool.{false, ◌||◌}
-use Prim.Native.Nat.{ℕ, ◌+◌, ◌-◌, ◌≤◌, ◌<◌}
-use native.Mathlib.Nat.{add-zero, sub-zero}
-use native.Mathlib.Omega.{arith}
-use borrow.Author.Tests.{not-true, not-false}
-use Rattle.hosts.specs.Names.{is_named, some_named}
-use Rattle.octets.specs.Octets.{octet_at, octets_from}
+use Prim.Native.Nat.{◌+◌, ◌-◌, ◌≤◌}
+use Rattle.hosts.specs.Names.{some_named}
+use Rattle.octets.specs.Octets.{octets_from}
 use Rattle.octets.specs.Same.{same_by, lower_case}
-use Rattle.octets.proofs.Laws.Same.{same_done, same_next, same_apart}
 use Rattle.der.specs.Header.{children_of}
-use Rattle.der.proofs.Laws.Any.{any_done, forward}
-use Rattle.hosts.proofs.Laws.Names.{named_skip, named_enter}
 use Rattle.hosts.proofs.named.some_same.Given as goal
 
 abbrev pub invariant-loop-k : goal.invariant-loop-k

@@ -1,8 +1,5 @@
 -- `lint::judging::admit` meets its contract. Assumes nothing.
-use mathlib.Core.Path.{◌≡◌}
-use borrow.Author.Tests.{not-true, not-false}
-use borrow.Author.Rules.{rules}
-use Rattle.lint.specs.Judging.{admission_of, for_profile}
+use Rattle.lint.specs.Judging.{admission_of}
 use Rattle.lint.proofs.judging.admit.Goals as goal
 
 pub returns-then-not-side_length_ok : goal.returns-then-not-side_length_ok
@@ -11,7 +8,7 @@ returns-then-not-side_length_ok c = rw (← c.side_length_ok.ensures, c.if-not-s
 
 pub returns-then-not-side_length_ok-2 : goal.returns-then-not-side_length_ok-2
 unfolding admission_of
-returns-then-not-side_length_ok-2 c = 
+returns-then-not-side_length_ok-2 c =
     rw (
       ← c.side_length_ok.ensures,
       c.if-not-side_length_ok.false,

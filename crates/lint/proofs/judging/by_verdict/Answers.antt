@@ -1,5 +1,4 @@
 -- `lint::judging::by_verdict` meets its contract. Assumes nothing.
-use borrow.Author.Rules.{rules}
 use Rattle.lint.proofs.judging.by_verdict.Goals as goal
 
 pub returns-in-Fits : goal.returns-in-Fits

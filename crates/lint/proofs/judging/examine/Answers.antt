@@ -1,5 +1,4 @@
 -- `lint::judging::examine` meets its contract. Assumes nothing.
-use borrow.Author.Rules.{rules}
 use Rattle.lint.specs.Judging.{judgement_of}
 use Rattle.lint.proofs.judging.examine.Goals as goal
 

@@ -1,5 +1,4 @@
 -- `lint::judging::judge_both` meets its contract. Assumes nothing.
-use borrow.Author.Rules.{rules}
 use Rattle.lint.specs.Judging.{both_sides}
 use Rattle.lint.proofs.judging.judge_both.Goals as goal
 

@@ -1,5 +1,4 @@
 -- `lint::judging::judge_side` meets its contract. Assumes nothing.
-use borrow.Author.Rules.{rules}
 use Rattle.lint.specs.Judging.{side_judgement}
 use Rattle.lint.proofs.judging.judge_side.Goals as goal
 

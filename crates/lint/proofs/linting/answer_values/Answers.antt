@@ -1,5 +1,4 @@
 -- `lint::linting::answer_values` meets its contract. Assumes nothing.
-use borrow.Author.Rules.{rules}
 use Rattle.lint.proofs.linting.answer_values.Goals as goal
 
 pub returns-in-Report : goal.returns-in-Report

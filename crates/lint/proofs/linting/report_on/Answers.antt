@@ -1,5 +1,4 @@
 -- `lint::linting::report_on` meets its contract. Assumes nothing.
-use borrow.Author.Rules.{rules}
 use Rattle.rules.proofs.Laws.Findings.{found_by_facts}
 use Rattle.lint.proofs.linting.report_on.Goals as goal
 

@@ -1,5 +1,4 @@
 -- `lint::reasons::inadmissible_values` meets its contract. Assumes nothing.
-use borrow.Author.Rules.{rules}
 use Rattle.lint.proofs.reasons.inadmissible_values.Goals as goal
 
 pub returns-in-CertificateLength : goal.returns-in-CertificateLength

@@ -1,5 +1,4 @@
 -- `lint::reasons::refusal_values` meets its contract. Assumes nothing.
-use borrow.Author.Rules.{rules}
 use Rattle.lint.proofs.reasons.refusal_values.Goals as goal
 
 pub returns-in-Unsound : goal.returns-in-Unsound

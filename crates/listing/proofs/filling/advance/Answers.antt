@@ -1,5 +1,4 @@
 -- `listing::filling::advance` meets its contract. Assumes nothing.
-use borrow.Author.Rules.{rules}
 use Rattle.listing.proofs.Laws.Advancing.{past_record, past_lost}
 use Rattle.listing.proofs.filling.advance.Goals as goal
 

@@ -6,7 +6,7 @@ use Prim.Native.Nat.{ℕ, ◌+◌, ◌-◌, ◌*◌, ◌≤◌, ◌<◌}
 use native.Mathlib.Omega.{arith}
 use lib.Dec.{leb}
 use lib.ListN.{length}
-use Rattle.listing.specs.Filling.{item_space, portion_of, items_from}
+use Rattle.listing.specs.Filling.{item_space, items_from}
 use Rattle.listing.specs.declared.filling.Progress.{Progress}
 use Rattle.reader.specs.Runs.{blocks}
 use Rattle.reader.specs.Stepping.{item_blocks, item_at}
@@ -32,9 +32,9 @@ advance-p-requires c =
     let some : item_blocks c.step-item.result ≡ 0 → ⊥ = λ none. c.if-item_blocks-eq0.false (c.item_blocks.ensures ∙ none) in
     let blocks_passed : item_blocks c.step-item.result ≡ item_blocks (item_at deck at turn.room) = ap item_blocks c.step-item.ensures.told in
     let inside : 512 * at < length deck = item_inside deck at turn.room
-      (λ (none : item_blocks (item_at deck at turn.room) ≡ 0). some (blocks_passed ∙ none)) in
+    (λ (none : item_blocks (item_at deck at turn.room) ≡ 0). some (blocks_passed ∙ none)) in
     let within : 512 * (at + item_blocks c.step-item.result) ≤ length deck + 511 =
-      omega (arith, blocks_passed, item_within deck at turn.room (omega (arith, inside))) in
+    omega (arith, blocks_passed, item_within deck at turn.room (omega (arith, inside))) in
     omega (arith, within)
 
 pub loop-position-smaller : goal.loop-position-smaller
@@ -45,9 +45,9 @@ loop-position-smaller c =
     let some : item_blocks c.step-item.result ≡ 0 → ⊥ = λ none. c.if-item_blocks-eq0.false (c.item_blocks.ensures ∙ none) in
     let blocks_passed : item_blocks c.step-item.result ≡ item_blocks (item_at deck at turn.room) = ap item_blocks c.step-item.ensures.told in
     let inside : 512 * at < length deck = item_inside deck at turn.room
-      (λ (none : item_blocks (item_at deck at turn.room) ≡ 0). some (blocks_passed ∙ none)) in
+    (λ (none : item_blocks (item_at deck at turn.room) ≡ 0). some (blocks_passed ∙ none)) in
     let next : c.advance-p.result.position ≡ at + item_blocks c.step-item.result =
-      ap (λ (q : Progress). q.position) c.advance-p.ensures ∙ advanced_position turn.p c.step-item.result in
+    ap (λ (q : Progress). q.position) c.advance-p.ensures ∙ advanced_position turn.p c.step-item.result in
     omega (arith, next, inside, some)
 
 pub loop-position-preserved : goal.loop-position-preserved

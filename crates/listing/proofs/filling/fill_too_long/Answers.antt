@@ -1,7 +1,6 @@
 -- `listing::filling::fill_too_long` meets its contract. Assumes nothing.
 use mathlib.Core.Path.{sym, ◌∙◌}
 use native.Mathlib.Omega.{arith}
-use borrow.Author.Rules.{rules}
 use Rattle.listing.specs.Lines.{too_long_line}
 use Rattle.listing.proofs.Laws.Lines.{too_long_long}
 use Rattle.listing.proofs.Laws.Filling.{text_put, text_waits}

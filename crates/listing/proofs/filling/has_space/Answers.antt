@@ -1,5 +1,4 @@
 -- `listing::filling::has_space` meets its contract. Assumes nothing.
-use borrow.Author.Rules.{rules}
 use Rattle.listing.proofs.filling.has_space.Goals as goal
 
 -- so many octets as the code keeps free are those of the definition

@@ -1,11 +1,10 @@
 -- `listing::filling::last_line` meets its contract. Assumes nothing.
 use native.Mathlib.Omega.{arith}
-use borrow.Author.Rules.{rules}
 use Rattle.listing.proofs.Laws.Whole.{last_whole}
 use Rattle.listing.proofs.filling.last_line.Goals as goal
 
 pub returns : goal.returns
-returns c = 
+returns c =
     let a = c.args in
     record {
       spelled = c.total_line.ensures;

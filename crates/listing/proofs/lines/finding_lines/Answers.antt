@@ -1,11 +1,6 @@
-use mathlib.Core.Path.{◌≡◌, refl, ◌∙◌}
-use Prim.Native.Nat.{◌-◌, ◌≤◌}
+use mathlib.Core.Path.{refl, ◌∙◌}
+use Prim.Native.Nat.{◌-◌}
 use native.Mathlib.Omega.{arith}
-use lib.ListN.{length}
-use borrow.Author.Rules.{rules}
-use Rattle.texts.specs.Putting.{Spelled}
-use Rattle.listing.specs.Listing.{finding_lines}
-use Rattle.report.specs.Entries.{decode}
 use Rattle.listing.proofs.Laws.Findings.{no_findings, one_finding, all_findings}
 use Rattle.listing.proofs.lines.finding_lines.Goals as goal
 

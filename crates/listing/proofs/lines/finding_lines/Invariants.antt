@@ -1,13 +1,10 @@
 -- `listing::lines::finding_lines` meets its contract. The invariant: so far the lines of the first k entries are put. Assumes nothing.
-use mathlib.Core.Path.{◌≡◌, refl, ◌∙◌}
+use mathlib.Core.Path.{◌≡◌}
 use Prim.Native.Nat.{◌-◌, ◌≤◌}
-use native.Mathlib.Omega.{arith}
 use lib.ListN.{length}
-use borrow.Author.Rules.{rules}
 use Rattle.texts.specs.Putting.{Spelled}
 use Rattle.listing.specs.Listing.{finding_lines}
 use Rattle.report.specs.Entries.{decode}
-use Rattle.listing.proofs.Laws.Findings.{no_findings, one_finding, all_findings}
 use Rattle.listing.proofs.lines.finding_lines.Given as goal
 
 abbrev pub invariant-loop-k : goal.invariant-loop-k

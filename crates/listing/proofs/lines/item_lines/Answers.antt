@@ -1,5 +1,4 @@
 -- `listing::lines::item_lines` meets its contract. Assumes nothing.
-use borrow.Author.Rules.{rules}
 use Rattle.texts.proofs.Laws.Putting.{put_nothing}
 use Rattle.listing.proofs.lines.item_lines.Goals as goal
 

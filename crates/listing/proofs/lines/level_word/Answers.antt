@@ -1,5 +1,4 @@
 -- `listing::lines::level_word` meets its contract: an arm a level. Assumes nothing.
-use borrow.Author.Rules.{rules}
 use borrow.Author.Tests.{ne_eqb}
 use Rattle.texts.specs.Texts.{word}
 use Rattle.texts.proofs.Laws.Putting.{put_nothing}

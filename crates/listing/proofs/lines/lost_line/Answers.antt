@@ -1,5 +1,4 @@
 -- `listing::lines::lost_line` meets its contract. Assumes nothing.
-use borrow.Author.Rules.{rules}
 use Rattle.texts.specs.Texts.{word}
 use Rattle.listing.specs.Lines.{lost_line}
 use Rattle.texts.proofs.Laws.Putting.{◌⨾◌}

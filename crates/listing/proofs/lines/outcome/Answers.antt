@@ -1,5 +1,4 @@
 -- `listing::lines::outcome` meets its contract. Assumes nothing.
-use borrow.Author.Rules.{rules}
 use Rattle.texts.specs.Texts.{word}
 use Rattle.listing.proofs.lines.outcome.Goals as goal
 

@@ -1,5 +1,4 @@
 -- `listing::lines::record_lines` meets its contract. Assumes nothing.
-use borrow.Author.Rules.{rules}
 use Rattle.listing.proofs.Laws.Findings.{reported_lines, refused_lines}
 use Rattle.listing.proofs.lines.record_lines.Goals as goal
 

@@ -1,5 +1,4 @@
 -- `listing::lines::refusal` meets its contract. Assumes nothing.
-use borrow.Author.Rules.{rules}
 use Rattle.listing.specs.Lines.{refusal_text}
 use Rattle.texts.specs.Texts.{word}
 use Rattle.texts.proofs.Laws.Putting.{◌⨾◌}

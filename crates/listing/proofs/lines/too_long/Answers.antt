@@ -1,5 +1,4 @@
 -- `listing::lines::too_long` meets its contract. Assumes nothing.
-use borrow.Author.Rules.{rules}
 use Rattle.texts.specs.Texts.{word}
 use Rattle.listing.specs.Lines.{too_long_line}
 use Rattle.listing.proofs.lines.too_long.Goals as goal

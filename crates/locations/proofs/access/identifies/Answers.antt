@@ -1,5 +1,4 @@
 -- `locations::access::identifies` meets its contract. Assumes nothing.
-use borrow.Author.Rules.{rules}
 use Rattle.der.specs.Oids.{sevens, subidentifier, subidentifiers, oid}
 use Rattle.locations.proofs.access.identifies.Goals as goal
 

@@ -1,6 +1,6 @@
 use Prim.Native.Nat.{◌-◌}
 use Rattle.locations.specs.Points.{is_restriction}
-use Rattle.der.proofs.Laws.Searching.{nearer, Search, search_start, search_true, search_next, search_false}
+use Rattle.der.proofs.Laws.Searching.{nearer, search_start, search_true, search_next, search_false}
 use Rattle.locations.proofs.points.restricted.Goals as goal
 
 pub returns-then-is_restriction : goal.returns-then-is_restriction

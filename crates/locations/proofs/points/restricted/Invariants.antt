@@ -1,7 +1,7 @@
 -- `locations::restricted` meets its contract. Assumes nothing.
 use Prim.Native.Nat.{◌-◌}
 use Rattle.locations.specs.Points.{is_restriction}
-use Rattle.der.proofs.Laws.Searching.{nearer, Search, search_start, search_true, search_next, search_false}
+use Rattle.der.proofs.Laws.Searching.{Search}
 use Rattle.locations.proofs.points.restricted.Given as goal
 
 abbrev pub invariant-loop-i : goal.invariant-loop-i

@@ -5,6 +5,6 @@ use Rattle.numbers.proofs.Laws.Small.{least_is}
 use Rattle.numbers.proofs.counting.at_least.Goals as goal
 
 pub returns : goal.returns
-returns c = 
+returns c =
     let a = c.args in
     rw c.small.ensures (least_is a.k (number a.s.now a.body a.end) (omega arith))

@@ -1,7 +1,6 @@
 -- `numbers::counting::push` meets its contract. Assumes nothing.
 use Prim.Native.Nat.{◌^◌}
 use native.Mathlib.Omega.{arith}
-use borrow.Author.Rules.{rules}
 use borrow.Author.Tests.{lt-ltb, le-ltb}
 use Rattle.numbers.proofs.counting.push.Goals as goal
 

@@ -1,10 +1,6 @@
-use mathlib.Core.Path.{◌≡◌, refl, sym, ◌∙◌}
-use Prim.Native.Nat.{◌-◌, ◌^◌, ◌≤◌, min}
+use mathlib.Core.Path.{refl, sym, ◌∙◌}
+use Prim.Native.Nat.{◌-◌}
 use native.Mathlib.Omega.{arith}
-use borrow.Author.Rules.{rules}
-use Rattle.numbers.specs.Numbers.{number}
-use Rattle.octets.specs.Numbers.{number_from}
-use Rattle.octets.specs.Octets.{octets_from}
 use Rattle.numbers.proofs.Laws.Small.{small_step, small_end}
 use Rattle.numbers.proofs.counting.small.Goals as goal
 
@@ -12,7 +8,7 @@ pub loop-i-init : goal.loop-i-init
 loop-i-init c = (refl, omega arith)
 
 pub loop-i-preserved : goal.loop-i-preserved
-loop-i-preserved c = 
+loop-i-preserved c =
     let a = c.args in (
       c.loop-i.invariant.0 ∙ small_step a.s.now c.loop-i.n c.loop-i.i a.end c.octet.result c.push-n.result
           c.loop-i-test.true c.octet.ensures c.push-n.ensures.0,
@@ -20,6 +16,6 @@ loop-i-preserved c =
     )
 
 pub returns : goal.returns
-returns c = 
+returns c =
     let a = c.args in
     sym (c.loop-i.invariant.0 ∙ small_end a.s.now c.loop-i.n c.loop-i.i a.end c.loop-i-test.false c.loop-i.invariant.1)

@@ -1,12 +1,9 @@
 -- `numbers::counting::small` meets its contract. Assumes nothing.
-use mathlib.Core.Path.{◌≡◌, refl, sym, ◌∙◌}
+use mathlib.Core.Path.{◌≡◌}
 use Prim.Native.Nat.{◌-◌, ◌^◌, ◌≤◌, min}
-use native.Mathlib.Omega.{arith}
-use borrow.Author.Rules.{rules}
 use Rattle.numbers.specs.Numbers.{number}
 use Rattle.octets.specs.Numbers.{number_from}
 use Rattle.octets.specs.Octets.{octets_from}
-use Rattle.numbers.proofs.Laws.Small.{small_step, small_end}
 use Rattle.numbers.proofs.counting.small.Given as goal
 
 abbrev pub invariant-loop-i : goal.invariant-loop-i

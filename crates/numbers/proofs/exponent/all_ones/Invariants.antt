@@ -1,11 +1,8 @@
 -- `numbers::exponent::all_ones` meets its contract. Assumes nothing.
-use mathlib.Core.Path.{◌≡◌, refl, sym, ◌∙◌}
+use mathlib.Core.Path.{◌≡◌}
 use Prim.Native.Nat.{◌-◌}
-use native.Mathlib.Omega.{arith}
-use borrow.Author.Rules.{rules}
 use Rattle.numbers.specs.Workings.Leading.{all_ones}
 use Rattle.octets.specs.Octets.{octets_from}
-use Rattle.numbers.proofs.Laws.Exponent.{ones_more, ones_less, ones_done}
 use Rattle.numbers.proofs.exponent.all_ones.Given as goal
 
 abbrev pub invariant-loop-i : goal.invariant-loop-i

@@ -1,8 +1,5 @@
-use mathlib.Core.Path.{◌≡◌, refl, sym, ◌∙◌}
+use mathlib.Core.Path.{refl, sym, ◌∙◌}
 use Prim.Native.Nat.{◌-◌}
-use native.Mathlib.Omega.{arith}
-use borrow.Author.Rules.{rules}
-use Rattle.numbers.specs.Workings.Leading.{lead_of}
 use Rattle.numbers.proofs.Laws.Leading.{lead_done, lead_step, lead_stop}
 use Rattle.numbers.proofs.leading.lead.Goals as goal
 
@@ -10,18 +7,18 @@ pub loop-i-init : goal.loop-i-init
 loop-i-init c = refl
 
 pub returns-then-octet-ne0 : goal.returns-then-octet-ne0
-returns-then-octet-ne0 c = 
+returns-then-octet-ne0 c =
     let a = c.args in
     sym (c.loop-i.invariant ∙ lead_stop a.s.now c.loop-i.i a.end c.octet.result c.loop-i-test.true
     c.octet.ensures c.if-octet-ne0.true)
 
 pub loop-i-preserved : goal.loop-i-preserved
-loop-i-preserved c = 
+loop-i-preserved c =
     let a = c.args in
     c.loop-i.invariant ∙ lead_step a.s.now c.loop-i.i a.end c.octet.result c.loop-i-test.true
     c.octet.ensures c.if-octet-ne0.false
 
 pub returns : goal.returns
-returns c = 
+returns c =
     let a = c.args in
     sym (c.loop-i.invariant ∙ lead_done a.s.now c.loop-i.i a.end c.loop-i-test.false)

@@ -1,10 +1,7 @@
 -- `numbers::leading::lead` meets its contract. Assumes nothing.
-use mathlib.Core.Path.{◌≡◌, refl, sym, ◌∙◌}
+use mathlib.Core.Path.{◌≡◌}
 use Prim.Native.Nat.{◌-◌}
-use native.Mathlib.Omega.{arith}
-use borrow.Author.Rules.{rules}
 use Rattle.numbers.specs.Workings.Leading.{lead_of}
-use Rattle.numbers.proofs.Laws.Leading.{lead_done, lead_step, lead_stop}
 use Rattle.numbers.proofs.leading.lead.Given as goal
 
 abbrev pub invariant-loop-i : goal.invariant-loop-i

@@ -7,6 +7,6 @@ use Rattle.numbers.proofs.Laws.Size.{not_below}
 use Rattle.numbers.proofs.size.long_modulus.Goals as goal
 
 pub returns : goal.returns
-returns c = 
+returns c =
     let a = c.args in
     ap not c.below.ensures ∙ not_below (number a.s.now a.body a.end) (2 ^ 2047)

@@ -4,7 +4,6 @@ use Prim.Native.Nat.{ℕ, ◌%◌, ◌^◌}
 use native.Mathlib.Omega.{arith}
 use native.Mathlib.Nat.{one-mul, mod-eq_of_lt, lt_of_lt_of_le}
 use lib.Pow.{pow-lt, pow_mono}
-use borrow.Author.Rules.{rules}
 use Rattle.numbers.proofs.size.power.Goals as goal
 
 pub returns : goal.returns

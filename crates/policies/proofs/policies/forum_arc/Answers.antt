@@ -1,5 +1,4 @@
 -- `policies::forum_arc` meets its contract. Assumes nothing.
-use borrow.Author.Rules.{rules}
 use Rattle.der.specs.Oids.{sevens, subidentifier, subidentifiers, oid}
 use Rattle.policies.proofs.policies.forum_arc.Goals as goal
 

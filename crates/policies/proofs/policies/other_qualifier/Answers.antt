@@ -1,5 +1,4 @@
 -- `policies::other_qualifier` meets its contract. Assumes nothing.
-use borrow.Author.Rules.{rules}
 use Rattle.policies.specs.Policies.{other_qualifier}
 use Rattle.der.specs.Oids.{sevens, subidentifier, subidentifiers, oid}
 use Rattle.policies.proofs.policies.other_qualifier.Goals as goal

@@ -1,6 +1,5 @@
 -- `primes::dividing::divisible_by_none` meets its contract. Assumes nothing.
 use mathlib.Core.Path.{refl}
-use borrow.Author.Rules.{rules}
 use Rattle.primes.specs.Workings.Rows.{rows_ok}
 use Rattle.primes.proofs.Laws.Primes.{table_right}
 use Rattle.primes.proofs.dividing.divisible_by_none.Goals as goal

@@ -1,16 +1,13 @@
-use mathlib.Core.Path.{◌≡◌, refl, sym, ◌∙◌}
-use Prim.Native.Nat.{◌-◌, ◌%◌}
+use mathlib.Core.Path.{refl, sym, ◌∙◌}
+use Prim.Native.Nat.{◌-◌}
 use native.Mathlib.Omega.{arith}
 use native.Mathlib.Nat.{mod-one}
-use lib.ListN.{length, drop}
-use borrow.Author.Rules.{rules}
-use Rattle.primes.specs.Primes.{free_of}
 use Rattle.numbers.specs.Numbers.{number}
 use Rattle.primes.proofs.Laws.Residues.{row, free_bad, free_good, free_done}
 use Rattle.primes.proofs.dividing.none_divides.Goals as goal
 
 pub loop-k-init : goal.loop-k-init
-loop-k-init c = 
+loop-k-init c =
     let a = c.args in
     (refl, sym (mod-one (number a.s.now a.body a.end)))
 
@@ -24,7 +21,7 @@ pub overflow_cast-m : goal.overflow_cast-m
 overflow_cast-m c = record { fits = omega (arith, c.shared_slice_known-in-loop-k-1.given c.loop-k.k) }
 
 pub renew-r-requires : goal.renew-r-requires
-renew-r-requires c = 
+renew-r-requires c =
     let w = (row c.args.primes.now c.args.products.now c.requires c.loop-k.k c.loop-k-test.true).1 in
     (w.least, w.most, c.loop-k.invariant.1)
 
@@ -35,13 +32,13 @@ pub nonzero_rem-r : goal.nonzero_rem-r
 nonzero_rem-r c = (row c.args.primes.now c.args.products.now c.requires c.loop-k.k c.loop-k-test.true).1.some
 
 pub returns-then-r-primes-eq0 : goal.returns-then-r-primes-eq0
-returns-then-r-primes-eq0 c = 
+returns-then-r-primes-eq0 c =
     let a = c.args in
     sym (c.loop-k.invariant.0 ∙ free_bad a.primes.now a.products.now c.requires c.loop-k.k (number a.s.now a.body a.end)
     c.renew-r.result c.loop-k-test.true c.renew-r.ensures c.if-r-primes-eq0.true)
 
 pub loop-k-preserved : goal.loop-k-preserved
-loop-k-preserved c = 
+loop-k-preserved c =
     let a = c.args in (
       c.loop-k.invariant.0 ∙ free_good a.primes.now a.products.now c.requires c.loop-k.k (number a.s.now a.body a.end)
           c.renew-r.result c.loop-k-test.true c.renew-r.ensures c.if-r-primes-eq0.false,
@@ -49,6 +46,6 @@ loop-k-preserved c =
     )
 
 pub returns : goal.returns
-returns c = 
+returns c =
     let a = c.args in
     sym (c.loop-k.invariant.0 ∙ free_done a.primes.now c.loop-k.k (number a.s.now a.body a.end) c.loop-k-test.false)

@@ -1,14 +1,10 @@
 -- `primes::dividing::none_divides` meets its contract. The invariant: the answer is that of the primes from the kth on, and r is the number modulo
 -- the last product. Assumes nothing.
-use mathlib.Core.Path.{◌≡◌, refl, sym, ◌∙◌}
+use mathlib.Core.Path.{◌≡◌}
 use Prim.Native.Nat.{◌-◌, ◌%◌}
-use native.Mathlib.Omega.{arith}
-use native.Mathlib.Nat.{mod-one}
 use lib.ListN.{length, drop}
-use borrow.Author.Rules.{rules}
 use Rattle.primes.specs.Primes.{free_of}
 use Rattle.numbers.specs.Numbers.{number}
-use Rattle.primes.proofs.Laws.Residues.{row, free_bad, free_good, free_done}
 use Rattle.primes.proofs.dividing.none_divides.Given as goal
 
 abbrev pub invariant-loop-k : goal.invariant-loop-k

@@ -1,11 +1,9 @@
 -- `primes::dividing::residue` meets its contract. Assumes nothing.
-use mathlib.Core.Path.{◌≡◌, sym, ap, ◌∙◌}
-use Prim.Native.Nat.{ℕ, ◌+◌, ◌-◌, ◌*◌, ◌%◌, ◌^◌}
-use native.Mathlib.Omega.{arith}
+use mathlib.Core.Path.{◌≡◌}
+use Prim.Native.Nat.{◌-◌, ◌%◌}
 use Rattle.octets.specs.Octets.{octets_from}
 use Rattle.octets.specs.Numbers.{number_from}
 use Rattle.numbers.specs.Numbers.{number}
-use Rattle.primes.proofs.Laws.Residues.{product, residue_below, start, more, done}
 use Rattle.primes.proofs.dividing.residue.Given as goal
 
 abbrev pub invariant-loop-i : goal.invariant-loop-i

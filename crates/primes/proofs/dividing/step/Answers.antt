@@ -1,6 +1,5 @@
 -- `primes::dividing::step` meets its contract. Assumes nothing.
 use native.Mathlib.Omega.{arith}
-use borrow.Author.Rules.{rules}
 use Rattle.primes.proofs.Laws.Residues.{step_parts}
 use Rattle.primes.proofs.dividing.step.Goals as goal
 

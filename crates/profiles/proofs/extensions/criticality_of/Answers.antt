@@ -1,5 +1,4 @@
 -- `profiles::extensions::criticality_of` meets its contract: an arm a profile. Assumes nothing.
-use borrow.Author.Rules.{rules}
 use Rattle.profiles.proofs.extensions.criticality_of.Goals as goal
 
 pub returns-in-Domain : goal.returns-in-Domain

@@ -1,11 +1,10 @@
 -- `profiles::extensions::responder_mark` meets its contract: an arm a slot. Assumes nothing.
-use borrow.Author.Rules.{rules}
 use Rattle.profiles.specs.Extensions.{responder_column}
 use Rattle.profiles.proofs.Laws.Extensions.{unlisted, further}
 use Rattle.profiles.proofs.extensions.responder_mark.Goals as goal
 
 pub returns-in_default : goal.returns-in_default
-returns-in_default c = 
+returns-in_default c =
     unlisted responder_column c.args.slot
     (λ l. further (further (further (further (further (further (further (further (further (further l c.in_default.in_default-own.rest.0.0.0.0.0.0.0.0.0.1)
     c.in_default.in_default-own.rest.0.0.0.0.0.0.0.0.1) c.in_default.in_default-own.rest.0.0.0.0.0.0.0.1) c.in_default.in_default-own.rest.0.0.0.0.0.0.1)

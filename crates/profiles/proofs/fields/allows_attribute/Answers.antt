@@ -1,5 +1,4 @@
 -- `profiles::fields::allows_attribute` meets its contract: an arm a profile. Assumes nothing.
-use borrow.Author.Rules.{rules}
 use Rattle.profiles.proofs.fields.allows_attribute.Goals as goal
 
 pub returns-in-Domain : goal.returns-in-Domain

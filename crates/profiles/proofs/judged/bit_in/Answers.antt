@@ -1,5 +1,4 @@
 -- `profiles::judged::bit_in` meets its contract. Assumes nothing.
-use borrow.Author.Rules.{rules}
 use borrow.Author.Tests.{lt-ltb, le-ltb}
 use native.Mathlib.Omega.{arith}
 use Rattle.profiles.proofs.judged.bit_in.Goals as goal

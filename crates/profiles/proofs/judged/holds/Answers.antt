@@ -6,6 +6,6 @@ use Rattle.profiles.proofs.Laws.Judged.{bits_right}
 use Rattle.profiles.proofs.judged.holds.Goals as goal
 
 pub returns : goal.returns
-returns c = 
+returns c =
     let a = c.args in
     c.bit_in.ensures ∙ (ap (λ (n : ℕ). bit_in n (a.rule % 100)) c.judged_bits.ensures ∙ bits_right a.p a.rule)

@@ -1,5 +1,4 @@
 -- `profiles::judged::judged_bits` meets its contract: an arm a profile. Assumes nothing.
-use borrow.Author.Rules.{rules}
 use Rattle.profiles.proofs.judged.judged_bits.Goals as goal
 
 pub returns-in-Domain : goal.returns-in-Domain

@@ -1,5 +1,4 @@
 -- `profiles::values::allows_purpose` meets its contract: an arm a profile. Assumes nothing.
-use borrow.Author.Rules.{rules}
 use Rattle.profiles.proofs.values.allows_purpose.Goals as goal
 
 pub returns-in-Domain : goal.returns-in-Domain

@@ -1,5 +1,4 @@
 -- `profiles::values::wants_forum` meets its contract: an arm a profile. Assumes nothing.
-use borrow.Author.Rules.{rules}
 use Rattle.profiles.proofs.values.wants_forum.Goals as goal
 
 pub returns-in-Domain : goal.returns-in-Domain

@@ -1,6 +1,5 @@
 -- `reader::counting::block_count` meets its contract. Assumes nothing.
 use mathlib.Core.Path.{sym}
-use borrow.Author.Rules.{rules}
 use Rattle.reader.proofs.Laws.Places.{block_total}
 use Rattle.reader.proofs.counting.block_count.Goals as goal
 

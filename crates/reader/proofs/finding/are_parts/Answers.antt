@@ -4,7 +4,6 @@ use mathlib.Core.List.{List}
 use Prim.Native.Nat.{ℕ, ◌+◌, ◌*◌, ◌-◌, ◌≤◌}
 use native.Mathlib.Omega.{arith}
 use lib.ListN.{length}
-use borrow.Author.Tests.{not-true, not-false}
 use Rattle.reader.specs.Runs.{block_at, from, is_part, are_parts}
 use Rattle.blocks.proofs.Laws.Logic.{and_not_left, and_passed}
 use Rattle.reader.proofs.Laws.Steps.{part_sound}
@@ -12,14 +11,14 @@ use Rattle.reader.proofs.Laws.Starts.{block_whole, parts_next, parts_done}
 use Rattle.reader.proofs.finding.are_parts.Goals as goal
 
 pub loop-j-init : goal.loop-j-init
-loop-j-init c = 
+loop-j-init c =
     let a = c.args in
     let e₁ : a.k ≡ a.k - 0 = omega arith in
     let e₂ : a.position ≡ a.position + 0 = omega arith in
     (omega arith, omega arith, ap₂ (λ (m i : ℕ). are_parts a.number a.n 0 m (from a.deck.now i)) e₁ e₂)
 
 pub returns-then-not-is_part : goal.returns-then-not-is_part
-returns-then-not-is_part c = 
+returns-then-not-is_part c =
     let a = c.args in
     let j = c.loop-j.j in
     let f : is_part a.number a.n j (block_at a.deck.now (a.position + j)) ≡ false =
@@ -29,7 +28,7 @@ returns-then-not-is_part c =
     ∙ parts_next a.number a.n j a.k a.deck.now a.position (omega arith) (omega arith) ∙ and_not_left _ f)
 
 pub loop-j-preserved : goal.loop-j-preserved
-loop-j-preserved c = 
+loop-j-preserved c =
     let a = c.args in
     let j = c.loop-j.j in
     let t : is_part a.number a.n j (block_at a.deck.now (a.position + j)) ≡ true =
@@ -43,7 +42,7 @@ loop-j-preserved c =
     )
 
 pub returns : goal.returns
-returns c = 
+returns c =
     let a = c.args in
     let j = c.loop-j.j in
     sym (c.loop-j.invariant.2 ∙ parts_done a.number a.n j a.k (from a.deck.now (a.position + j)) (omega arith))

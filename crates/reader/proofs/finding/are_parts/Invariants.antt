@@ -1,15 +1,8 @@
 -- `reader::finding::are_parts` meets its contract: the blocks are the parts exactly if those from j on are. Assumes nothing.
-use mathlib.Core.Path.{◌≡◌, sym, ap, ap₂, ◌∙◌}
-use mathlib.Core.Bool.{true, false}
-use mathlib.Core.List.{List}
-use Prim.Native.Nat.{ℕ, ◌+◌, ◌*◌, ◌-◌, ◌≤◌}
-use native.Mathlib.Omega.{arith}
+use mathlib.Core.Path.{◌≡◌}
+use Prim.Native.Nat.{◌+◌, ◌*◌, ◌-◌, ◌≤◌}
 use lib.ListN.{length}
-use borrow.Author.Tests.{not-true, not-false}
-use Rattle.reader.specs.Runs.{block_at, from, is_part, are_parts}
-use Rattle.blocks.proofs.Laws.Logic.{and_not_left, and_passed}
-use Rattle.reader.proofs.Laws.Steps.{part_sound}
-use Rattle.reader.proofs.Laws.Starts.{block_whole, parts_next, parts_done}
+use Rattle.reader.specs.Runs.{from, are_parts}
 use Rattle.reader.proofs.finding.are_parts.Given as goal
 
 abbrev pub invariant-loop-j : goal.invariant-loop-j

@@ -4,7 +4,7 @@ use Rattle.reader.proofs.Laws.Starts.{part_by, unsound_no_part}
 use Rattle.reader.proofs.finding.is_part.Goals as goal
 
 pub returns-then-is_sound_block : goal.returns-then-is_sound_block
-returns-then-is_sound_block c = 
+returns-then-is_sound_block c =
     let a = c.args in
     rw (
       c.record_number.ensures.0,
@@ -16,6 +16,6 @@ returns-then-is_sound_block c =
     (sym c.is_sound_block.ensures ∙ c.if-is_sound_block.true)))
 
 pub returns : goal.returns
-returns c = 
+returns c =
     let a = c.args in
     sym (unsound_no_part a.number a.n a.j a.block.now (sym c.is_sound_block.ensures ∙ c.if-is_sound_block.false))

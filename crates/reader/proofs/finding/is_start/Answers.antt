@@ -21,8 +21,8 @@ returns-then-number-is_record_length c =
     let n : ℕ = c.record_length-n.result in
     let by : starts (from deck position) ≡ run number n (from deck position)
     = starts_by deck position number n c.requires
-      (ap record_number (sym c.block_at-block.ensures) ∙ sym c.record_number-number.ensures.0)
-      (ap record_length (sym c.block_at-block.ensures) ∙ sym c.record_length-n.ensures.0) in
+    (ap record_number (sym c.block_at-block.ensures) ∙ sym c.record_number-number.ensures.0)
+    (ap record_length (sym c.block_at-block.ensures) ∙ sym c.record_length-n.ensures.0) in
     sym (by ∙ bad_head number n (from deck position) (rw (← c.is_record_length.ensures) c.if-number-is_record_length.true))
 
 pub returns-then-not-are_parts : goal.returns-then-not-are_parts
@@ -33,8 +33,8 @@ returns-then-not-are_parts c =
     let n : ℕ = c.record_length-n.result in
     let by : starts (from deck position) ≡ run number n (from deck position)
     = starts_by deck position number n c.requires
-      (ap record_number (sym c.block_at-block.ensures) ∙ sym c.record_number-number.ensures.0)
-      (ap record_length (sym c.block_at-block.ensures) ∙ sym c.record_length-n.ensures.0) in
+    (ap record_number (sym c.block_at-block.ensures) ∙ sym c.record_number-number.ensures.0)
+    (ap record_length (sym c.block_at-block.ensures) ∙ sym c.record_length-n.ensures.0) in
     let good : (eqb number 0 || not (is_record_length n)) ≡ false
     = rw (← c.is_record_length.ensures) c.if-number-is_record_length.false in
     let k : ℕ = c.parts_of-k.result in
@@ -88,8 +88,8 @@ returns c =
     let n : ℕ = c.record_length-n.result in
     let by : starts (from deck position) ≡ run number n (from deck position)
     = starts_by deck position number n c.requires
-      (ap record_number (sym c.block_at-block.ensures) ∙ sym c.record_number-number.ensures.0)
-      (ap record_length (sym c.block_at-block.ensures) ∙ sym c.record_length-n.ensures.0) in
+    (ap record_number (sym c.block_at-block.ensures) ∙ sym c.record_number-number.ensures.0)
+    (ap record_length (sym c.block_at-block.ensures) ∙ sym c.record_length-n.ensures.0) in
     let good : (eqb number 0 || not (is_record_length n)) ≡ false
     = rw (← c.is_record_length.ensures) c.if-number-is_record_length.false in
     let sized : (3 ≤ n) × (n ≤ 16387) = good_length number n (from deck position) good in

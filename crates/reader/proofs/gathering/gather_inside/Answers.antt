@@ -1,10 +1,7 @@
 use mathlib.Core.Path.{◌≡◌, refl}
-use mathlib.Core.List.{◌++◌}
-use Prim.Native.Nat.{◌*◌, ◌-◌, ◌≤◌}
+use Prim.Native.Nat.{◌-◌}
 use native.Mathlib.Numerals.{add-one}
 use native.Mathlib.Omega.{arith}
-use lib.ListN.{length, drop}
-use Rattle.reader.specs.Runs.{from, data_from}
 use Rattle.reader.proofs.Laws.Gathering.{gathered, gathered_long}
 use Rattle.reader.proofs.gathering.gather_inside.Goals as goal
 
@@ -12,7 +9,7 @@ pub loop-j-init : goal.loop-j-init
 loop-j-init c = (omega arith, refl, refl)
 
 pub loop-j-preserved : goal.loop-j-preserved
-loop-j-preserved c = 
+loop-j-preserved c =
     let l = c.loop-j in
     let a = c.args in
     let copy = c.copy.ensures in
@@ -26,7 +23,7 @@ pub shape_of-desk : goal.shape_of-desk
 shape_of-desk c = c.loop-j.invariant.1
 
 pub returns : goal.returns
-returns c = 
+returns c =
     let l = c.loop-j in
     let a = c.args in
     let e : l.j ≡ a.k = omega arith in

@@ -1,5 +1,4 @@
 -- `reader::stepping::item_blocks` meets its contract. Assumes nothing.
-use borrow.Author.Rules.{rules}
 use Rattle.reader.proofs.stepping.item_blocks.Goals as goal
 
 pub returns-in-Record : goal.returns-in-Record

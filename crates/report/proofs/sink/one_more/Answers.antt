@@ -1,5 +1,4 @@
 -- `report::one_more` meets its contract. Assumes nothing.
-use borrow.Author.Rules.{rules}
 use Rattle.report.proofs.Laws.Putting.{tick_below, tick_cap}
 use Rattle.report.proofs.sink.one_more.Goals as goal
 

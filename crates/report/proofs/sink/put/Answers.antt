@@ -4,7 +4,7 @@ use Rattle.report.proofs.Laws.Putting.{put_in, put_out}
 use Rattle.report.proofs.sink.put.Goals as goal
 
 pub returns-then-n-room : goal.returns-then-n-room
-returns-then-n-room c = 
+returns-then-n-room c =
     put_in _ _ _ _ _ _ _ (search rules) (search rules) c.write_pair.ensures c.write_pair-then-n-room.ensures c.write_pair-then-n-room-2.ensures
     c.write_pair-then-n-room-3.ensures
 

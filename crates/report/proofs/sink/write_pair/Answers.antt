@@ -2,7 +2,6 @@
 use native.Mathlib.Numerals.{towards_suc}
 use native.Mathlib.Omega.{arith}
 use lib.ListN.{length-set}
-use borrow.Author.Rules.{rules}
 use Rattle.report.proofs.sink.write_pair.Goals as goal
 
 pub bounds-room-at-2 : goal.bounds-room-at-2

@@ -1,5 +1,4 @@
 -- `rules_extensions::identifiers::identifiers` meets its contract. Assumes nothing.
-use borrow.Author.Rules.{rules}
 use Rattle.profiles.specs.Judged.{judged_in, row_of}
 use Rattle.rules_extensions.specs.Identifiers.{identifier_rows}
 use Rattle.forms.specs.Kinds.{is_unwanted_in, is_out_of_place_in}

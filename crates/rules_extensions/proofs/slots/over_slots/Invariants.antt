@@ -1,20 +1,19 @@
 -- `rules_extensions::slots::over_slots` meets its contract. The invariant: the rules of the slots from this one on are still to be put. Assumes nothing.
-use mathlib.Core.Path.{◌≡◌, refl, ◌∙◌}
+use mathlib.Core.Path.{◌≡◌}
 use mathlib.Core.List.{List}
 use Prim.Native.Nat.{ℕ, ◌-◌, ◌≤◌}
 use lib.ListN.{length}
-use borrow.Author.Rules.{rules}
-use Rattle.rules_extensions.specs.Slots.{row_at, rows_over}
+use Rattle.rules_extensions.specs.Slots.{row_at}
 use Rattle.rules_extensions.specs.declared.slots.Question.{Question}
 use Rattle.der.specs.declared.header.Head.{Head}
 use Rattle.profiles.specs.declared.fields.Profile.{Profile}
-use Rattle.certificate.specs.Slots.{numbers_from, slot_count}
+use Rattle.certificate.specs.Slots.{slot_count}
 use Rattle.certificate.specs.Standing.{standing_by}
 use Rattle.certificate.specs.declared.slots.Slot.{Slot}
 use Rattle.facts.specs.Case.{slot_in}
 use Rattle.report.specs.Rows.{Row, findings_of}
-use Rattle.report.proofs.Laws.Putting.{Rest, rest_start}
-use Rattle.rules_extensions.proofs.Laws.Slots.{rows_from, slots_turn, slots_end}
+use Rattle.report.proofs.Laws.Putting.{Rest}
+use Rattle.rules_extensions.proofs.Laws.Slots.{rows_from}
 use Rattle.rules_extensions.proofs.slots.over_slots.Given as goal
 
 abbrev row_in : Question → Profile → Head → List Slot → ℕ → Row

@@ -1,7 +1,6 @@
 -- `rules_fields::period::is_too_long` meets its contract. Assumes nothing.
 use mathlib.Core.Path.{ap}
 use mathlib.Core.Bool.{not}
-use borrow.Author.Rules.{rules}
 use Rattle.rules_fields.proofs.period.is_too_long.Goals as goal
 
 pub returns-in-Days : goal.returns-in-Days

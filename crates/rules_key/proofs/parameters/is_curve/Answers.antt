@@ -1,5 +1,4 @@
 -- `rules_key::parameters::is_curve` meets its contract. Assumes nothing.
-use borrow.Author.Rules.{rules}
 use Rattle.der.specs.Oids.{sevens, subidentifier, subidentifiers, oid}
 use Rattle.rules_key.proofs.parameters.is_curve.Goals as goal
 

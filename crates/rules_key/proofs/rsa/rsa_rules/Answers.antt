@@ -1,6 +1,5 @@
 -- `rules_key::rsa::rsa_rules` meets its contract. Assumes nothing.
 use mathlib.Core.Bool.{not, ◌&&◌}
-use borrow.Author.Rules.{rules}
 use Rattle.octets.specs.Numbers.{number_of}
 use Rattle.der.specs.Contents.{contents_of}
 use Rattle.primes.specs.Primes.{primes_below, free_of}
@@ -9,7 +8,7 @@ use Rattle.rules_key.proofs.Laws.Noted.{rsa_noted}
 use Rattle.rules_key.proofs.rsa.rsa_rules.Goals as goal
 
 pub returns : goal.returns
-returns c = 
+returns c =
     let a = c.args in
     let key = c.rsa_key-key.result in
     let free = free_of (primes_below 752) (number_of (contents_of a.s.now key.modulus)) in

@@ -1,5 +1,4 @@
 -- `rules_subject::attributes::name_and_country` meets its contract. Assumes nothing.
-use borrow.Author.Rules.{rules}
 use Rattle.profiles.specs.Judged.{judged_in, row_of}
 use Rattle.rules_subject.specs.Attributes.{country_rows}
 use Rattle.report.proofs.Laws.Rows.{◌⟫◌}

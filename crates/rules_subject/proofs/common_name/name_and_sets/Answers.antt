@@ -1,5 +1,4 @@
 -- `rules_subject::common_name::name_and_sets` meets its contract. Assumes nothing.
-use borrow.Author.Rules.{rules}
 use Rattle.profiles.specs.Judged.{judged_in, row_of}
 use Rattle.rules_subject.specs.CommonName.{is_unnamed, name_rows}
 use Rattle.forms.proofs.Laws.Values.{good_at, by_standing}
@@ -8,7 +7,7 @@ use Rattle.rules_subject.proofs.common_name.name_and_sets.Goals as goal
 
 pub returns : goal.returns
 unfolding name_rows judged_in row_of
-returns c = 
+returns c =
     let a = c.args in
     let v = a.v in
     let cn = c.first_within-cn.result in

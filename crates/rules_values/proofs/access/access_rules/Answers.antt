@@ -1,5 +1,4 @@
 -- `rules_values::access::access_rules` meets its contract. Assumes nothing.
-use borrow.Author.Rules.{rules}
 use Rattle.rules_values.specs.Access.{access_rows}
 use Rattle.profiles.specs.Judged.{judged_in, row_of}
 use Rattle.forms.proofs.Laws.Values.{by_standing}
@@ -8,7 +7,7 @@ use Rattle.rules_values.proofs.access.access_rules.Goals as goal
 
 pub returns : goal.returns
 unfolding access_rows judged_in row_of
-returns c = 
+returns c =
     let a = c.args in
     let put = rw (c.none_of-issuers.ensures, c.none_of-ocsp.ensures) at
     (c.judge_value-a.ensures ⟫ c.judge_value-b.ensures ⟫ c.judge_items.ensures) in

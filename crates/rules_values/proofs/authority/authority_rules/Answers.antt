@@ -1,16 +1,14 @@
 -- `rules_values::authority::authority_rules` meets its contract. Assumes nothing.
 use mathlib.Core.List.{[], ◌∷◌}
-use borrow.Author.Rules.{rules}
 use Rattle.rules_values.specs.Authority.{rule421, rule422, rule423, rule424, authority_rows}
 use Rattle.profiles.specs.Judged.{subordinate, judged_in, row_of}
 use Rattle.forms.proofs.Laws.Values.{by_standing}
-use Rattle.report.specs.Rows.{◌for◌⦂◌}
 use Rattle.report.proofs.Laws.Rows.{◌⟫◌}
 use Rattle.rules_values.proofs.authority.authority_rules.Goals as goal
 
 pub returns : goal.returns
 unfolding authority_rows judged_in row_of
-returns c = 
+returns c =
     let a = c.args in
     let s = a.s.now in
     let last-put = rw c.is_last_authority-last.ensures at c.judge_value-a.ensures in

@@ -1,17 +1,15 @@
 -- `rules_values::identifiers::identifier_rules` meets its contract. Assumes nothing.
 use mathlib.Core.List.{[], ◌∷◌}
-use borrow.Author.Rules.{rules}
 use Rattle.rules_values.specs.Identifiers.{rule401, rule402, rule403, key_identifier_rows}
 use Rattle.profiles.specs.Judged.{S, every_profile, judged_in, row_of}
 use Rattle.forms.proofs.Laws.Values.{by_standing}
 use Rattle.certificate.specs.Issuer.{known}
-use Rattle.report.specs.Rows.{◌for◌⦂◌}
 use Rattle.report.proofs.Laws.Rows.{◌⟫◌}
 use Rattle.rules_values.proofs.identifiers.identifier_rules.Goals as goal
 
 pub returns : goal.returns
 unfolding key_identifier_rows judged_in row_of
-returns c = 
+returns c =
     let a = c.args in
     let s = a.s.now in
     let key = (known a.issuer.now a.i).key in

@@ -1,5 +1,4 @@
 -- `rules_values::usage::usage_rules` meets its contract. Assumes nothing.
-use borrow.Author.Rules.{rules}
 use Rattle.rules_values.specs.Usage.{usage_rows}
 use Rattle.profiles.specs.Judged.{judged_in, row_of}
 use Rattle.forms.proofs.Laws.Values.{by_standing}
@@ -9,7 +8,7 @@ use Rattle.rules_values.proofs.usage.usage_rules.Goals as goal
 
 pub returns : goal.returns
 unfolding usage_rows judged_in row_of
-returns c = 
+returns c =
     let a = c.args in
     let put = rw (c.signs-signs.ensures, c.other_usage-other.ensures, c.allowed_usage.ensures, allowed_named a.p a.kind) at
     (c.judge_value-a.ensures ⟫ c.judge_value.ensures) in

@@ -1,10 +1,8 @@
 -- `subjects::authorities::are_digits` meets its contract. The invariant: the answer is that of the octets from the kth on. Assumes nothing.
-use mathlib.Core.Path.{◌≡◌, refl, sym, ◌∙◌}
+use mathlib.Core.Path.{◌≡◌}
 use Prim.Native.Nat.{◌+◌, ◌-◌}
-use native.Mathlib.Omega.{arith}
 use Rattle.octets.specs.Characters.{are_digits}
 use Rattle.octets.specs.Octets.{octets_from}
-use Rattle.subjects.proofs.Laws.Authorities.{digits_done, digits_stop, digits_next}
 use Rattle.subjects.proofs.authorities.are_digits.Given as goal
 
 abbrev pub invariant-loop-k : goal.invariant-loop-k

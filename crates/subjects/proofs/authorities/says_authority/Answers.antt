@@ -1,5 +1,4 @@
 -- `subjects::authorities::says_authority` meets its contract: the byte strings are the words. Assumes nothing.
-use borrow.Author.Rules.{rules}
 use Rattle.subjects.specs.Authorities.{says_authority}
 use Rattle.texts.specs.Texts.{word}
 use Rattle.subjects.proofs.authorities.says_authority.Goals as goal

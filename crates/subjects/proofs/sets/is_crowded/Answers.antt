@@ -3,6 +3,6 @@ use Rattle.subjects.proofs.Laws.Sets.{crowded_law}
 use Rattle.subjects.proofs.sets.is_crowded.Goals as goal
 
 pub returns : goal.returns
-returns c = 
+returns c =
     let a = c.args in
     crowded_law a.s.now a.h c.head_at-first.result c.head_at-first.ensures

@@ -11,7 +11,7 @@ use Rattle.subjects.proofs.types.arc_of.Goals as goal
 
 pub returns : goal.returns
 unfolding arc_of
-returns c = 
+returns c =
     let s : List ℕ = c.args.s.now in
     c.type_arc.ensures
     ∙ ap (λ (n : ℕ). arc_below attribute_types (octets_from s c.first_in-kind.result.body n)) c.minus.ensures

@@ -1,5 +1,4 @@
 -- `subjects::values::is_other_organization` meets its contract: the byte string is the word. Assumes nothing.
-use borrow.Author.Rules.{rules}
 use Rattle.texts.specs.Texts.{word}
 use Rattle.subjects.proofs.values.is_other_organization.Goals as goal
 

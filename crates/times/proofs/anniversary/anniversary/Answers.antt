@@ -1,5 +1,4 @@
 -- `times::anniversary::anniversary` meets its contract. Assumes nothing.
-use borrow.Author.Rules.{rules}
 use Rattle.times.specs.Calendar.{days_of, seconds_of}
 use Rattle.times.specs.Anniversary.{anniversary_of}
 use Rattle.times.proofs.anniversary.anniversary.Goals as goal

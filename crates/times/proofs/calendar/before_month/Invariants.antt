@@ -1,10 +1,7 @@
 -- `times::calendar::before_month` meets its contract. The invariant: the days are those of the months before m, at most 31 each. Assumes nothing.
-use mathlib.Core.Path.{◌≡◌, refl, ap, ◌∙◌}
+use mathlib.Core.Path.{◌≡◌}
 use Prim.Native.Nat.{◌-◌, ◌*◌, ◌≤◌}
-use native.Mathlib.Omega.{arith}
-use borrow.Author.Rules.{rules}
 use Rattle.times.specs.Calendar.{before_month}
-use Rattle.times.proofs.Laws.Calendar.{month_next}
 use Rattle.times.proofs.calendar.before_month.Given as goal
 
 abbrev pub invariant-loop-m : goal.invariant-loop-m

@@ -1,6 +1,5 @@
 -- `times::calendar::before_year` meets its contract. Assumes nothing.
 use native.Mathlib.Omega.{arith}
-use borrow.Author.Rules.{rules}
 use Rattle.times.proofs.Laws.Calendar.{year_count}
 use Rattle.times.proofs.calendar.before_year.Goals as goal
 

@@ -1,5 +1,4 @@
 -- `times::calendar::date_ok` meets its contract. Assumes nothing.
-use borrow.Author.Rules.{rules}
 use Rattle.times.specs.Calendar.{date_ok}
 use Rattle.times.proofs.calendar.date_ok.Goals as goal
 

@@ -1,6 +1,5 @@
 -- `times::calendar::days` meets its contract. Assumes nothing.
 use native.Mathlib.Omega.{arith}
-use borrow.Author.Rules.{rules}
 use Rattle.times.specs.Calendar.{days_of}
 use Rattle.times.proofs.calendar.days.Goals as goal
 

@@ -1,6 +1,5 @@
 -- `times::calendar::seconds` meets its contract. Assumes nothing.
 use native.Mathlib.Omega.{arith}
-use borrow.Author.Rules.{rules}
 use Rattle.times.specs.Calendar.{days_of, seconds_of}
 use Rattle.times.proofs.calendar.seconds.Goals as goal
 

@@ -2,7 +2,6 @@
 use mathlib.Core.List.{List}
 use Prim.Native.Nat.{ℕ, ◌+◌}
 use native.Mathlib.Omega.{arith}
-use borrow.Author.Rules.{rules}
 use Rattle.times.specs.Reads.{date_at}
 use Rattle.octets.specs.Octets.{octets_from}
 use Rattle.times.proofs.Laws.Reads.{digit_at}
@@ -10,7 +9,7 @@ use Rattle.times.proofs.reading.date_at.Goals as goal
 
 pub returns : goal.returns
 unfolding date_at
-returns c digits = 
+returns c digits =
     let x = c.args in
     let contents : List ℕ = octets_from x.s.now x.body x.n in
     let at = digit_at contents (x.k + 10) in

@@ -1,5 +1,4 @@
 -- `times::reading::digits_and_z` meets its contract. Assumes nothing.
-use borrow.Author.Rules.{rules}
 use Rattle.times.specs.Reads.{digits_and_z}
 use Rattle.octets.proofs.Laws.Octets.{octets_long}
 use Rattle.times.proofs.reading.digits_and_z.Goals as goal

@@ -1,14 +1,9 @@
 -- `times::reading::digits_first` meets its contract. The invariant: the answer is that of the octets from the kth on. Assumes nothing.
-use mathlib.Core.Path.{◌≡◌, sym, ◌∙◌}
+use mathlib.Core.Path.{◌≡◌}
 use Prim.Native.Nat.{◌-◌}
-use native.Mathlib.Nat.{sub-zero}
-use native.Mathlib.Omega.{arith}
-use borrow.Author.Rules.{rules}
-use borrow.Author.Tests.{not-true, not-false}
 use Rattle.times.specs.Reads.{digits_first}
 use Rattle.octets.specs.Characters.{are_digits}
 use Rattle.octets.specs.Octets.{octets_from}
-use Rattle.times.proofs.Laws.Reads.{digits_good, digits_bad, digits_done}
 use Rattle.times.proofs.reading.digits_first.Given as goal
 
 abbrev pub invariant-loop-k : goal.invariant-loop-k

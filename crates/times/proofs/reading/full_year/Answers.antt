@@ -1,5 +1,4 @@
 -- `times::reading::full_year` meets its contract. Assumes nothing.
-use borrow.Author.Rules.{rules}
 use borrow.Author.Tests.{lt-ltb, le-ltb}
 use Rattle.times.proofs.reading.full_year.Goals as goal
 

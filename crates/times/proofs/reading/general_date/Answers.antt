@@ -3,14 +3,13 @@ use mathlib.Core.Path.{ap₂, ◌∙◌}
 use mathlib.Core.List.{List}
 use Prim.Native.Nat.{ℕ, ◌+◌, ◌*◌}
 use native.Mathlib.Omega.{arith}
-use borrow.Author.Rules.{rules}
 use Rattle.times.specs.Reads.{date_at}
 use Rattle.octets.specs.Octets.{octets_from}
 use Rattle.times.proofs.Laws.Reads.{digit_at}
 use Rattle.times.proofs.reading.general_date.Goals as goal
 
 pub returns : goal.returns
-returns c digits = 
+returns c digits =
     let a = c.args in
     let contents : List ℕ = octets_from a.s.now a.body a.n in
     let at = digit_at contents 14 in

@@ -1,5 +1,4 @@
 -- `times::validity::early_general` meets its contract. Assumes nothing.
-use borrow.Author.Rules.{rules}
 use Rattle.times.proofs.validity.early_general.Goals as goal
 
 pub returns-in-General : goal.returns-in-General

@@ -2,7 +2,6 @@
 use mathlib.Core.Path.{ap}
 use Prim.Native.Nat.{ℕ, ◌*◌}
 use lib.Dec.{leb}
-use borrow.Author.Rules.{rules}
 use Rattle.times.proofs.validity.within_days.Goals as goal
 
 pub returns : goal.returns

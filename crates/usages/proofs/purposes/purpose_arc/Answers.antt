@@ -1,5 +1,4 @@
 -- `usages::purpose_arc` meets its contract. Assumes nothing.
-use borrow.Author.Rules.{rules}
 use Rattle.der.specs.Oids.{sevens, subidentifier, subidentifiers, oid}
 use Rattle.usages.proofs.purposes.purpose_arc.Goals as goal
 

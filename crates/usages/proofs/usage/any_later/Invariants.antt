@@ -1,10 +1,8 @@
 -- `usages::usage::any_later` meets its contract. The invariant: the answer is that of the octets from the kth on. Assumes nothing.
-use mathlib.Core.Path.{◌≡◌, refl, sym, ◌∙◌}
+use mathlib.Core.Path.{◌≡◌}
 use Prim.Native.Nat.{◌+◌, ◌-◌}
-use native.Mathlib.Omega.{arith}
 use Rattle.usages.specs.Workings.Usage.{any_set}
 use Rattle.octets.specs.Octets.{octets_from}
-use Rattle.usages.proofs.Laws.Usage.{bits_done, bits_here, bits_later}
 use Rattle.usages.proofs.usage.any_later.Given as goal
 
 abbrev pub invariant-loop-k : goal.invariant-loop-k

@@ -1,5 +1,4 @@
 -- `writer::reasons::not_written_values` meets its contract. Assumes nothing.
-use borrow.Author.Rules.{rules}
 use Rattle.writer.proofs.reasons.not_written_values.Goals as goal
 
 pub returns-in-NoNumber : goal.returns-in-NoNumber

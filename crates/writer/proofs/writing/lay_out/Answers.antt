@@ -4,7 +4,6 @@ use mathlib.Core.List.{◌∷◌}
 use native.Mathlib.Omega.{arith}
 use lib.ListN.{length, length-set}
 use lib.Seq.{sets-eq, length-sets}
-use borrow.Author.Rules.{rules}
 use Rattle.octets.specs.Numbers.{pair_of}
 use Rattle.writer.proofs.Laws.Desk.{laid_out}
 use Rattle.writer.proofs.writing.lay_out.Goals as goal
@@ -16,12 +15,12 @@ pub bounds-desk-2 : goal.bounds-desk-2
 bounds-desk-2 c = simp length-set (omega arith)
 
 pub shape_of-desk : goal.shape_of-desk
-shape_of-desk c = 
+shape_of-desk c =
     let a = c.args in
     c.copy-2.auto.out ∙ c.copy.auto.out ∙ length-sets a.desk.now 0 (a.profile ∷ pair_of (length a.certificate.now))
 
 pub returns : goal.returns
-returns c = 
+returns c =
     let a = c.args in
     laid_out a.profile a.certificate.now a.issuer.now a.desk.now _ _ _ c.requires
     (sets-eq (a.profile ∷ pair_of (length a.certificate.now)) a.desk.now 0 (omega arith))

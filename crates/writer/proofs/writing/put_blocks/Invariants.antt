@@ -1,13 +1,10 @@
 -- `writer::writing::put_blocks` meets its contract: the blocks put so far stand at the front of the room, and the rest of it is as it was.
 -- Assumes nothing.
-use mathlib.Core.Path.{◌≡◌, refl}
+use mathlib.Core.Path.{◌≡◌}
 use mathlib.Core.List.{◌++◌}
-use Prim.Native.Nat.{suc, ◌-◌, ◌*◌, ◌≤◌}
-use native.Mathlib.Numerals.{add-one}
-use native.Mathlib.Omega.{arith}
-use lib.ListN.{length, drop, length-take, length-drop}
+use Prim.Native.Nat.{◌-◌, ◌*◌, ◌≤◌}
+use lib.ListN.{length, drop}
 use Rattle.writer.specs.Cutting.{blocks_from, end_to_end}
-use Rattle.writer.proofs.Laws.Rooms.{room_step, room_length}
 use Rattle.writer.proofs.writing.put_blocks.Given as goal
 
 abbrev pub invariant-loop-part : goal.invariant-loop-part

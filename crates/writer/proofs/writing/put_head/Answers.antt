@@ -3,7 +3,6 @@ use mathlib.Core.List.{◌∷◌, [], ◌++◌}
 use native.Mathlib.Omega.{arith}
 use lib.ListN.{length-set}
 use lib.Seq.{sets-eq}
-use borrow.Author.Rules.{rules}
 use Rattle.octets.specs.Numbers.{pair_of, quad_of}
 use Rattle.writer.proofs.writing.put_head.Goals as goal
 
@@ -20,6 +19,6 @@ pub bounds-block-7 : goal.bounds-block-7
 bounds-block-7 c = simp length-set (omega arith)
 
 pub returns : goal.returns
-returns c = 
+returns c =
     let a = c.args in
     sets-eq (quad_of a.number ++ (pair_of a.n ++ (a.part ∷ 0 ∷ []))) a.block.now 0 (omega arith)

@@ -17,7 +17,7 @@ pub slice_bounds-put_blocks-end : goal.slice_bounds-put_blocks-end
 slice_bounds-put_blocks-end c = sym (c.lay_out.auto.desk ∙ length-replicate {A = ℕ} 16566 0)
 
 pub put_blocks-requires : goal.put_blocks-requires
-put_blocks-requires c = 
+put_blocks-requires c =
     let a = c.args in
     let few : a.count ≤ 33 = parts_few a.profile a.certificate.now a.issuer.now a.count c.requires.2 c.requires.0 c.requires.1 in
     let desk = c.lay_out.auto.desk ∙ length-replicate {A = ℕ} 16566 0 in
@@ -27,7 +27,7 @@ pub shape_of-room : goal.shape_of-room
 shape_of-room c = c.put_blocks.auto.room
 
 pub returns : goal.returns
-returns c = 
+returns c =
     let a = c.args in
     let few : a.count ≤ 33 = parts_few a.profile a.certificate.now a.issuer.now a.count c.requires.2 c.requires.0 c.requires.1 in
     record_put a.profile a.certificate.now a.issuer.now a.count c.requires.2 a.number 16566

@@ -3,7 +3,6 @@ use mathlib.Core.Path.{◌≡◌, refl, sym, ap, ◌∙◌}
 use Prim.Native.Nat.{◌≤◌}
 use native.Mathlib.Omega.{arith}
 use lib.ListN.{length}
-use borrow.Author.Rules.{rules}
 use Rattle.writer.specs.declared.reasons.NotWritten.TheVariants.{NoNumber, NoRoom}
 use Rattle.writer.specs.declared.writing.Placing.TheVariants.{Blocks, Refused}
 use Rattle.lint.specs.Judging.{admission_of}
@@ -16,7 +15,7 @@ use Rattle.writer.proofs.Laws.Statements.{refused_first, refused_number, refused
 use Rattle.writer.proofs.writing.write_record.Goals as goal
 
 pub returns-in-Refused : goal.returns-in-Refused
-returns-in-Refused c = 
+returns-in-Refused c =
     let a = c.args in
     answered a.number a.profile a.certificate.now a.issuer.now a.room.now _ a.room.now
     (refused_first a.number a.profile a.certificate.now a.issuer.now a.room.now _
@@ -24,7 +23,7 @@ returns-in-Refused c =
     refl
 
 pub returns-then-number-eq0 : goal.returns-then-number-eq0
-returns-then-number-eq0 c = 
+returns-then-number-eq0 c =
     let admitted : admission_of (length c.args.certificate.now) (length c.args.issuer.now) c.args.profile
     ≡ Admitted c.in_default.field-0 = sym c.admit-admission.ensures ∙ c.in_default.is in
     let a = c.args in
@@ -33,14 +32,14 @@ returns-then-number-eq0 c =
     refl
 
 pub overflow_add-certificate : goal.overflow_add-certificate
-overflow_add-certificate c = 
+overflow_add-certificate c =
     let admitted : admission_of (length c.args.certificate.now) (length c.args.issuer.now) c.args.profile
     ≡ Admitted c.in_default.field-0 = sym c.admit-admission.ensures ∙ c.in_default.is in
     let short_certificate : length c.args.certificate.now ≤ 8192 = (admitted_certificate _ _ _ _ admitted).1 in
     omega (arith, short_certificate)
 
 pub overflow_add-certificate-2 : goal.overflow_add-certificate-2
-overflow_add-certificate-2 c = 
+overflow_add-certificate-2 c =
     let admitted : admission_of (length c.args.certificate.now) (length c.args.issuer.now) c.args.profile
     ≡ Admitted c.in_default.field-0 = sym c.admit-admission.ensures ∙ c.in_default.is in
     let short_certificate : length c.args.certificate.now ≤ 8192 = (admitted_certificate _ _ _ _ admitted).1 in
@@ -48,7 +47,7 @@ overflow_add-certificate-2 c =
     omega (arith, short_certificate, short_issuer)
 
 pub overflow_mul-count : goal.overflow_mul-count
-overflow_mul-count c = 
+overflow_mul-count c =
     let admitted : admission_of (length c.args.certificate.now) (length c.args.issuer.now) c.args.profile
     ≡ Admitted c.in_default.field-0 = sym c.admit-admission.ensures ∙ c.in_default.is in
     let short_certificate : length c.args.certificate.now ≤ 8192 = (admitted_certificate _ _ _ _ admitted).1 in
@@ -56,7 +55,7 @@ overflow_mul-count c =
     omega (arith, c.parts_of-count.ensures, short_certificate, short_issuer)
 
 pub returns-then-room-count : goal.returns-then-room-count
-returns-then-room-count c = 
+returns-then-room-count c =
     let admitted : admission_of (length c.args.certificate.now) (length c.args.issuer.now) c.args.profile
     ≡ Admitted c.in_default.field-0 = sym c.admit-admission.ensures ∙ c.in_default.is in
     let counted : let a = c.args in
