@@ -31,7 +31,7 @@ use Rattle.report.proofs.Terms.Items.{Apart}
 use Rattle.report.specs.Order.RisingEntries.{no_entries, more_entries}
 use Rattle.report.proofs.Terms.Items.Apart.{no_items, more_items}
 use Rattle.report.specs.Putting.{Put}
-use Rattle.report.specs.Rows.{Row, ◌⦂◌, broken_at, only_if, entries_of, findings_of, Puts, ascend, BrokenIn}
+use Rattle.report.specs.Rows.{Row, ◌for◌⦂◌, ◌⦂◌, broken_at, only_if, entries_of, findings_of, Puts, ascend, BrokenIn}
 use Rattle.report.proofs.Terms.Rows.{Up, RowOk, RowsOk}
 use Rattle.report.proofs.Terms.Rows.Up.{no_heads, more_heads}
 use Rattle.report.proofs.Terms.Rows.RowsOk.{no_rows, more_rows}
