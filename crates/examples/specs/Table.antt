@@ -21,7 +21,7 @@ use Rattle.certificate.specs.declared.key.KeyKind.TheVariants.{Rsa, EllipticCurv
 use Rattle.certificate.specs.declared.fields.Certificate.{Certificate}
 use Rattle.certificate.specs.Standing.{Standing, by_value}
 use Rattle.profiles.specs.Judged.{every_profile}
-use Rattle.report.specs.Rows.{Row}
+use Rattle.report.specs.Rows.{Row, ◌for◌⦂◌}
 use Rattle.rules_fields.specs.Period.{validity_rows}
 use Rattle.rules_extensions.specs.Slots.{rule340}
 use Rattle.rules_values.specs.Usage.{usage_rows}

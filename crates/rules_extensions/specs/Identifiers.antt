@@ -6,7 +6,7 @@ use Rattle.profiles.specs.Judged.{S, O, every_profile}
 use Rattle.profiles.specs.declared.fields.Profile.{Profile}
 use Rattle.forms.specs.Kinds.{unwanted_by, out_of_place_by}
 use Rattle.report.specs.Forms.{filter}
-use Rattle.report.specs.Rows.{Row}
+use Rattle.report.specs.Rows.{Row, ◌for◌⦂◌}
 
 -- `seen` says of an extension in the list whether it has "an identifier seen before"
 

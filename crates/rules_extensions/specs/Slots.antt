@@ -7,7 +7,7 @@ use Rattle.certificate.specs.Slots.{numbers_from, slot_count}
 use Rattle.certificate.specs.Standing.{Standing, standing_at}
 use Rattle.certificate.specs.declared.extensions.Extension.{Extension}
 use Rattle.certificate.specs.declared.fields.Certificate.{Certificate}
-use Rattle.report.specs.Rows.{Row, broken_at}
+use Rattle.report.specs.Rows.{Row, ◌for◌⦂◌, broken_at}
 use Rattle.rules_extensions.specs.declared.slots.Question.{Question}
 use Rattle.rules_extensions.specs.declared.slots.Question.TheVariants.{Missing, Criticality, Value}
 

@@ -5,7 +5,7 @@ use Rattle.der.specs.Oids.{oid_element, null_element}
 use Rattle.der.specs.declared.header.Head.{Head}
 use Rattle.certificate.specs.declared.fields.Certificate.{Certificate}
 use Rattle.profiles.specs.Judged.{every_profile}
-use Rattle.report.specs.Rows.{Row, broken_at}
+use Rattle.report.specs.Rows.{Row, ◌for◌⦂◌, broken_at}
 
 -- the OBJECT IDENTIFIER sha256WithRSAEncryption, and then NULL
 abbrev pub sha256_rsa : List ℕ

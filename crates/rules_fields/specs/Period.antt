@@ -9,7 +9,7 @@ use Rattle.profiles.specs.declared.fields.Limit.{Limit}
 use Rattle.profiles.specs.declared.fields.Limit.TheVariants.{Days, Years}
 use Rattle.profiles.specs.declared.fields.Profile.{Profile}
 use Rattle.certificate.specs.declared.fields.Certificate.{Certificate}
-use Rattle.report.specs.Rows.{Row, broken_at}
+use Rattle.report.specs.Rows.{Row, ◌for◌⦂◌, broken_at}
 
 -- 109 "each GeneralizedTime before 2050"
 abbrev pub rule109 : Certificate → List Head

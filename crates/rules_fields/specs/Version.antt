@@ -8,7 +8,7 @@ use Rattle.der.specs.declared.header.Head.{Head}
 use Rattle.numbers.specs.Numbers.{is_positive}
 use Rattle.certificate.specs.declared.fields.Certificate.{Certificate}
 use Rattle.profiles.specs.Judged.{O, every_profile}
-use Rattle.report.specs.Rows.{Row, broken_at}
+use Rattle.report.specs.Rows.{Row, ◌for◌⦂◌, broken_at}
 
 -- the version stands in [0], and 2 says v3 (RFC 5280, 4.1.2.1)
 abbrev pub is_v3 : List ℕ → Head → Bool

@@ -8,7 +8,7 @@ use Rattle.profiles.specs.declared.fields.Profile.{Profile}
 use Rattle.certificate.specs.declared.key.KeyKind.{KeyKind}
 use Rattle.certificate.specs.declared.key.Key.{Key}
 use Rattle.facts.specs.Kinds.{is_rsa, is_elliptic_curve}
-use Rattle.report.specs.Rows.{Row, broken_at}
+use Rattle.report.specs.Rows.{Row, ◌for◌⦂◌, broken_at}
 
 -- 201 "key is rsaEncryption, or (S) ecPublicKey"; "201 RSA only" (CR 1)
 abbrev pub allows_kind : Profile → KeyKind → Bool

@@ -9,7 +9,7 @@ use Rattle.primes.specs.Primes.{primes_below, free_of}
 use Rattle.certificate.specs.declared.key.Key.{Key}
 use Rattle.facts.specs.Kinds.{is_rsa}
 use Rattle.profiles.specs.Judged.{O, server_and_responder, subordinate, every_profile}
-use Rattle.report.specs.Rows.{Row, broken_at}
+use Rattle.report.specs.Rows.{Row, ◌for◌⦂◌, broken_at}
 
 -- 204 "RSA bits are, with 0 unused, exactly a sound SEQUENCE of two positive INTEGERs"
 abbrev pub rule204 : List ℕ → Key → List Head

@@ -8,7 +8,7 @@ use Rattle.subjects.specs.Texts.{is_other_country, is_other_organization, is_oth
 use Rattle.forms.specs.Kinds.{has_arc, is_foreign}
 use Rattle.forms.specs.Lists.{attributes_in}
 use Rattle.report.specs.Forms.{filter, ones_of}
-use Rattle.report.specs.Rows.{Row}
+use Rattle.report.specs.Rows.{Row, ◌for◌⦂◌}
 
 -- "one X", X by its arc below 2.5.4: "an entry at the subject name if none, and at each further X"
 abbrev pub one_of : ℕ → List ℕ → Head → List Head

@@ -15,7 +15,7 @@ use Rattle.forms.specs.Kinds.{has_arc}
 use Rattle.forms.specs.Lists.{attributes_in}
 use Rattle.forms.specs.Values.{where_good}
 use Rattle.report.specs.Forms.{filter}
-use Rattle.report.specs.Rows.{Row, broken_at}
+use Rattle.report.specs.Rows.{Row, ◌for◌⦂◌, broken_at}
 
 -- the first CN of a subject, or an empty element
 abbrev pub first_common_name : List ℕ → Head → Head

@@ -10,7 +10,7 @@ use Rattle.locations.specs.declared.access.Method.{Method}
 use Rattle.locations.specs.declared.access.Method.TheVariants.{Ocsp, CaIssuers}
 use Rattle.report.specs.Forms.{filter}
 use Rattle.profiles.specs.Judged.{server_and_subordinate, every_profile}
-use Rattle.report.specs.Rows.{Row, broken_at}
+use Rattle.report.specs.Rows.{Row, ◌for◌⦂◌, broken_at}
 
 -- an entry with this method and a URI
 abbrev pub uri_wanted : Method → List ℕ → Standing → List Head

@@ -13,7 +13,7 @@ use Rattle.locations.specs.declared.access.Method.TheVariants.{Ocsp}
 use Rattle.forms.specs.Values.{where_good}
 use Rattle.profiles.specs.Judged.{subordinate}
 use Rattle.report.specs.Forms.{filter}
-use Rattle.report.specs.Rows.{Row, broken_at}
+use Rattle.report.specs.Rows.{Row, ◌for◌⦂◌, broken_at}
 use Rattle.rules_values.specs.Points.{full_names_in}
 
 -- BasicConstraints ::= SEQUENCE { cA BOOLEAN DEFAULT FALSE, pathLenConstraint INTEGER (0..MAX) OPTIONAL } (RFC 5280, 4.2.1.9)

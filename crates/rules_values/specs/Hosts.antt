@@ -8,7 +8,7 @@ use Rattle.hosts.specs.Hosts.{has_underscore, no_host}
 use Rattle.forms.specs.Kinds.{is_no_dns_name}
 use Rattle.report.specs.Forms.{filter}
 use Rattle.profiles.specs.Judged.{server_and_responder, server_and_subordinate}
-use Rattle.report.specs.Rows.{Row}
+use Rattle.report.specs.Rows.{Row, ◌for◌⦂◌}
 
 -- 412 "each name not a dNSName"
 abbrev pub rule412 : List ℕ → Standing → List Head

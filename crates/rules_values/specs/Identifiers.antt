@@ -9,7 +9,7 @@ use Rattle.certificate.specs.Issuer.{KeyIdentifier}
 use Rattle.certificate.specs.Standing.{Standing}
 use Rattle.forms.specs.Values.{where_good}
 use Rattle.profiles.specs.Judged.{S, every_profile}
-use Rattle.report.specs.Rows.{Row, broken_at}
+use Rattle.report.specs.Rows.{Row, ◌for◌⦂◌, broken_at}
 
 -- AuthorityKeyIdentifier ::= SEQUENCE { keyIdentifier [0] KeyIdentifier OPTIONAL, .. }: the first member, if its tag is [0]
 abbrev pub authority_key : List ℕ → Head → KeyIdentifier

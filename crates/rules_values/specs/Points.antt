@@ -11,7 +11,7 @@ use Rattle.forms.specs.Lists.{items_within}
 use Rattle.forms.specs.declared.nests.Nest.TheVariants.{Point}
 use Rattle.report.specs.Forms.{filter}
 use Rattle.profiles.specs.Judged.{every_profile}
-use Rattle.report.specs.Rows.{Row, broken_at}
+use Rattle.report.specs.Rows.{Row, ◌for◌⦂◌, broken_at}
 
 -- the names of the points' full names
 abbrev pub full_names_in : List ℕ → Head → List Head

@@ -12,7 +12,7 @@ use Rattle.forms.specs.Kinds.{is_forum_policy}
 use Rattle.forms.specs.Lists.{items_within}
 use Rattle.forms.specs.declared.nests.Nest.TheVariants.{Policy}
 use Rattle.report.specs.Forms.{filter}
-use Rattle.report.specs.Rows.{Row, broken_at}
+use Rattle.report.specs.Rows.{Row, ◌for◌⦂◌, broken_at}
 
 -- 409 "a policy below 2.16.840.1.101.3.2.1.3"
 abbrev pub rule409 : List ℕ → Standing → List Head

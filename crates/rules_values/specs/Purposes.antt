@@ -9,7 +9,7 @@ use Rattle.profiles.specs.Judged.{server_and_responder, every_profile}
 use Rattle.profiles.specs.declared.fields.Profile.{Profile}
 use Rattle.forms.specs.Kinds.{is_wanted_purpose, is_other_purpose}
 use Rattle.report.specs.Forms.{filter}
-use Rattle.report.specs.Rows.{Row, broken_at}
+use Rattle.report.specs.Rows.{Row, ◌for◌⦂◌, broken_at}
 
 -- 407 "serverAuth (S) or OCSPSigning (O) present"; "407 (serverAuth)" (CR 1)
 abbrev pub rule407 : Profile → List ℕ → Standing → List Head

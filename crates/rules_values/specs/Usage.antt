@@ -9,7 +9,7 @@ use Rattle.profiles.specs.declared.fields.Profile.{Profile}
 use Rattle.certificate.specs.declared.key.KeyKind.{KeyKind}
 use Rattle.certificate.specs.declared.key.KeyKind.TheVariants.{Rsa, EllipticCurve, Other}
 use Rattle.usages.specs.Usage.{bit_at, usage_of, other_bits}
-use Rattle.report.specs.Rows.{Row, broken_at}
+use Rattle.report.specs.Rows.{Row, ◌for◌⦂◌, broken_at}
 
 -- 404 "digitalSignature set"
 abbrev pub rule404 : List ℕ → Standing → List Head

@@ -24,7 +24,7 @@ use Rattle.certificate.specs.Slots.{has_repeats}
 use Rattle.facts.specs.Case.{seen_by, case_in}
 use Rattle.facts.proofs.Laws.Case.{case_by}
 use Rattle.report.specs.Forms.{filter}
-use Rattle.report.specs.Rows.{Row}
+use Rattle.report.specs.Rows.{Row, ◌for◌⦂◌}
 use Rattle.forms.specs.Kinds.{unwanted_by, out_of_place_by}
 use Rattle.report.specs.Order.{In}
 

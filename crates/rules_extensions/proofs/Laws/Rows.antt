@@ -22,7 +22,7 @@ use Rattle.facts.specs.Case.{case_in, standing_of}
 use Rattle.facts.specs.Elements.{Element}
 use Rattle.facts.proofs.Laws.Slots.{in_list, list_place_lem, StandingOk, standing_ok}
 use Rattle.report.specs.Forms.{filter}
-use Rattle.report.specs.Rows.{broken_at}
+use Rattle.report.specs.Rows.{◌for◌⦂◌, broken_at}
 use Rattle.report.proofs.Terms.Rows.{RowOk, RowsOk}
 use Rattle.report.proofs.Terms.Rows.RowsOk.{no_rows, more_rows}
 use Rattle.report.proofs.Laws.Order.{children_apart}

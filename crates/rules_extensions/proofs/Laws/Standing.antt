@@ -14,7 +14,7 @@ use Rattle.profiles.proofs.Laws.Slots.{missing_judged, criticality_judged, value
 use Rattle.certificate.specs.Slots.{slot_count}
 use Rattle.certificate.specs.Standing.{Standing, extension_by, standing_by}
 use Rattle.certificate.specs.declared.slots.Slot.{Slot}
-use Rattle.report.specs.Rows.{Row, ◌⦂◌, broken_at, Puts}
+use Rattle.report.specs.Rows.{Row, ◌for◌⦂◌, ◌⦂◌, broken_at, Puts}
 use Rattle.rules_extensions.specs.Slots.{is_missing, where_there, is_miscritical_at, rule340, row_at}
 use Rattle.rules_extensions.specs.declared.slots.Question.TheVariants.{Missing, Criticality, Value}
 

@@ -20,7 +20,7 @@ use Rattle.certificate.specs.Issuer.{Known}
 use Rattle.facts.specs.Case.{case_in}
 use Rattle.facts.specs.Elements.{Element}
 use Rattle.facts.proofs.Laws.Fields.{field_elements}
-use Rattle.report.specs.Rows.{broken_at}
+use Rattle.report.specs.Rows.{◌for◌⦂◌, broken_at}
 use Rattle.report.proofs.Terms.Rows.{RowOk, RowsOk}
 use Rattle.report.proofs.Terms.Rows.RowsOk.{no_rows, more_rows}
 use Rattle.report.proofs.Laws.Rows.{at_ok, twice_ok}

@@ -35,7 +35,7 @@ use Rattle.facts.proofs.Laws.Members.{AllElements, here, among, same_element_lem
 use Rattle.facts.specs.Elements.Topmost.{in_bits}
 use Rattle.facts.specs.Kinds.{is_rsa}
 use Rattle.facts.proofs.Laws.Key.{algorithm_element, bits_element}
-use Rattle.report.specs.Rows.{broken_at}
+use Rattle.report.specs.Rows.{◌for◌⦂◌, broken_at}
 use Rattle.report.proofs.Terms.Rows.{RowOk, RowsOk}
 use Rattle.report.proofs.Terms.Rows.RowsOk.{no_rows, more_rows}
 use Rattle.report.proofs.Laws.Rows.{at_ok}

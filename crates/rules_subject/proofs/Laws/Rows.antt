@@ -1,6 +1,7 @@
 -- Rules 112 to 122: where they are broken.
 --     subject_ok     each of them at elements of the certificate, in their order
 -- A name is a SEQUENCE OF SET OF SEQUENCE by the grammar. Assumes nothing.
+use Rattle.report.specs.Rows.{◌for◌⦂◌}
 use mathlib.Core.Path.{◌≡◌, refl}
 use mathlib.Core.List.{List}
 use mathlib.Core.Bool.{Bool, true, not}

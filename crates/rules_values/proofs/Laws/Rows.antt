@@ -37,7 +37,7 @@ use Rattle.forms.specs.Values.{where_good}
 use Rattle.forms.specs.declared.nests.Nest.TheVariants.{Policy, Point}
 use Rattle.forms.proofs.Laws.Lists.{items_in}
 use Rattle.report.specs.Forms.{filter}
-use Rattle.report.specs.Rows.{broken_at}
+use Rattle.report.specs.Rows.{◌for◌⦂◌, broken_at}
 use Rattle.report.proofs.Terms.Rows.{RowOk, RowsOk}
 use Rattle.report.proofs.Terms.Rows.RowsOk.{no_rows, more_rows}
 use Rattle.report.proofs.Laws.Order.{children_apart}

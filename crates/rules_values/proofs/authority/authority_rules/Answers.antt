@@ -1,4 +1,5 @@
 -- `rules_values::authority::authority_rules` meets its contract. Assumes nothing.
+use Rattle.report.specs.Rows.{◌for◌⦂◌}
 use mathlib.Core.List.{[], ◌∷◌}
 use Rattle.rules_values.specs.Authority.{rule421, rule422, rule423, rule424, authority_rows}
 use Rattle.profiles.specs.Judged.{subordinate, judged_in, row_of}

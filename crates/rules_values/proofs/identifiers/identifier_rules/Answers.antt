@@ -1,4 +1,5 @@
 -- `rules_values::identifiers::identifier_rules` meets its contract. Assumes nothing.
+use Rattle.report.specs.Rows.{◌for◌⦂◌}
 use mathlib.Core.List.{[], ◌∷◌}
 use Rattle.rules_values.specs.Identifiers.{rule401, rule402, rule403, key_identifier_rows}
 use Rattle.profiles.specs.Judged.{S, every_profile, judged_in, row_of}
