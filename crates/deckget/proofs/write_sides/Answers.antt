@@ -1,5 +1,5 @@
 -- A fetch goes forward in the deck and is counted, and there is always room for it.
-use Rattle.std.proofs.Common.{◌≡◌, ◌∙◌, sym, ◌≤◌, length, arith}
+use Rattle.std.proofs.Common.{◌≤◌, length, arith}
 use Rattle.retrieval.proofs.Laws.Fetches.{goes_forward, room_enough}
 use Rattle.deckget.proofs.Laws.Counting.{counted_none, counted_next, counted_all}
 use Rattle.deckget.proofs.write_sides.Goals as goal
