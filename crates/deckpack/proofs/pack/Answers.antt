@@ -1,5 +1,5 @@
 -- The blocks that the writer answers lie in the room.
-use Rattle.std.proofs.Common.{◌≡◌, ◌*◌, ◌≤◌, ℕ, List, length, sym, arith, replicate, length-take-le}
+use Rattle.std.proofs.Common.{◌≡◌, ◌*◌, ◌≤◌, ℕ, List, sym, arith, replicate, length-take-le}
 use Rattle.std.proofs.lemmas.List.{length-replicate}
 use Rattle.writer.specs.declared.writing.Placing.TheVariants.{Blocks}
 use Rattle.writer.specs.Answers.{write_answer}

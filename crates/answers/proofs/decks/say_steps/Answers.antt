@@ -11,20 +11,20 @@ use Rattle.answers.proofs.decks.say_steps.Goals as goal
 -- a step from block i, what it gave, how many blocks that takes, and what it left of the room
 module _ (deck : List ℕ) (i n : ℕ) (item : Item) (room last : List ℕ) (told : item ≡ item_at deck i room) (passed : n ≡ item_blocks item)
     (bytes : last ≡ room_at deck i room)
-    where
-  count : n ≡ item_blocks (item_at deck i room)
-  count = passed ∙ ap item_blocks told
+  where
+    count : n ≡ item_blocks (item_at deck i room)
+    count = passed ∙ ap item_blocks told
 
-  within : 512 * i ≤ length deck + 511 → 512 * (i + n) ≤ length deck + 511
-  within h = omega (arith, count, item_within deck i room h)
+    within : 512 * i ≤ length deck + 511 → 512 * (i + n) ≤ length deck + 511
+    within h = omega (arith, count, item_within deck i room h)
 
-  rest : room_past last (events_from deck (i + n)) ≡ room_past room (events_from deck i)
-  rest = ap₂ (λ (r : List ℕ) (m : ℕ). room_past r (events_from deck (i + m))) bytes count ∙ goes_on deck i room
+    rest : room_past last (events_from deck (i + n)) ≡ room_past room (events_from deck i)
+    rest = ap₂ (λ (r : List ℕ) (m : ℕ). room_past r (events_from deck (i + m))) bytes count ∙ goes_on deck i room
 
-  ended : n ≡ 0 → last ≡ room_past room (events_from deck i)
-  ended none =
-      let e : item_blocks (item_at deck i room) ≡ 0 = omega (arith, count, none) in
-      bytes ∙ at_end deck i room e
+    ended : n ≡ 0 → last ≡ room_past room (events_from deck i)
+    ended none =
+        let e : item_blocks (item_at deck i room) ≡ 0 = omega (arith, count, none) in
+        bytes ∙ at_end deck i room e
 
 pub loop-item-init : goal.loop-item-init
 unfolding events
