@@ -13,7 +13,7 @@ use Rattle.der.specs.declared.header.Head.{Head}
 
 -- tests of contents that are no list of elements
 pub data Test : Type 0 where
-  free integer natural positive version yes_octet oid bits named_bits_lem nothing utc generalized : Test
+  free integer natural positive version yes_octet oid bits bits_named nothing utc generalized : Test
 
 mutual
   -- a type: the alternatives of a CHOICE, each by its identifier octet (0 stands for any); most types have one
@@ -80,7 +80,7 @@ passes natural tag c = natural_ok c
 passes positive tag c = positive_ok c
 passes version tag c = version_ok c
 passes yes_octet tag c = true_ok c
-passes named_bits_lem tag c = named_ok c
+passes bits_named tag c = named_ok c
 passes utc tag c = is_real (time_of utc_time_tag c)
 passes generalized tag c = is_real (time_of generalized_time_tag c)
 

@@ -29,7 +29,7 @@ abbrev pub bit_string : Form
 bit_string = alt bit_string_tag (leaf Test.bits) none
 
 abbrev pub named_bits : Form
-named_bits = alt bit_string_tag (leaf Test.named_bits_lem) none
+named_bits = alt bit_string_tag (leaf Test.bits_named) none
 
 abbrev pub octet_string : Form
 octet_string = alt octet_string_tag (leaf Test.free) none

@@ -1,13 +1,13 @@
 // Members of an element by their order. A member that is missing is a head that is not sound and has no contents.
 ghost use Rattle.std.specs.Prelude.{◌≡◌};
-ghost use Rattle.der.specs.Members.{missing as noMember, first_in, after as memberAfter, second_in, past as memberPast, inside_tag};
+ghost use Rattle.der.specs.Members.{missing as no_member, first_in, after as member_after, second_in, past as member_past, inside_tag};
 ghost use Rattle.der.specs.Elements.{is_empty};
 
 use crate::header::{Head, broken_head, head_at};
 
 // No element, in a container that ends at `end`.
 pub fn missing(end: usize) -> Head
-    ensures { result ≡ noMember end }
+    ensures { result ≡ no_member end }
 {
     broken_head(end, end)
 }
@@ -28,7 +28,7 @@ pub fn first_in(s: &[u8], h: Head) -> Head
 
 // The member after h in an element that ends at `end`.
 pub fn after(s: &[u8], h: Head, end: usize) -> Head
-    ensures { result ≡ memberAfter s.now h end }
+    ensures { result ≡ member_after s.now h end }
 {
     head_at(s, h.end, end)
 }
@@ -42,7 +42,7 @@ pub fn second_in(s: &[u8], h: Head) -> Head
 
 // The member that stands at h or, where h is an optional field with this tag, after it.
 pub fn past(tag: u8, s: &[u8], h: Head, end: usize) -> Head
-    ensures { result ≡ memberPast tag s.now h end }
+    ensures { result ≡ member_past tag s.now h end }
 {
     if h.tag == tag {
         return after(s, h, end);

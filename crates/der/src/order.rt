@@ -2,7 +2,7 @@
 ghost use Rattle.std.specs.Prelude.{◌≡◌, map, ◌-◌, not, ◌||◌};
 ghost use Rattle.octets.specs.Octets.{octets_from};
 ghost use Rattle.der.specs.Header.{children_of};
-ghost use Rattle.der.specs.Order.{octets_le, ascending as ascendingOf, octets_of};
+ghost use Rattle.der.specs.Order.{octets_le, ascending as ascending_of, octets_of};
 
 use crate::header::head_at;
 
@@ -41,7 +41,7 @@ pub fn may_follow(s: &[u8], set: bool, from: usize, at: usize, end: usize) -> bo
 // Whether the elements from `at` to `end` ascend. (The walk judges a SET that bears its own tag; this is for one
 // under another tag.)
 pub fn ascending(s: &[u8], at: usize, end: usize) -> bool
-    ensures { result ≡ ascendingOf (map (octets_of s.now) (children_of s.now at end)) }
+    ensures { result ≡ ascending_of (map (octets_of s.now) (children_of s.now at end)) }
 {
     let mut i = at;
     let mut from = at;

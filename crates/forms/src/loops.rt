@@ -2,7 +2,7 @@
 // kinds, and no branch in it that writes.
 ghost use Rattle.der.specs.Header.{children_of};
 ghost use Rattle.report.specs.Putting.{Put};
-ghost use Rattle.report.specs.Workings.Forms.{each as eachOf, one, is_behind};
+ghost use Rattle.report.specs.Workings.Forms.{each as each_of, one, is_behind};
 ghost use Rattle.forms.specs.Kinds.{of_kind};
 ghost use Rattle.forms.specs.Lists.{items_within, attributes_in};
 
@@ -25,7 +25,7 @@ fn each_behind(
     to: usize,
 ) -> usize
     ensures { Put
-        (eachOf rule (is_behind (of_kind kind p s.now) place) (children_of s.now from to))
+        (each_of rule (is_behind (of_kind kind p s.now) place) (children_of s.now from to))
         n room.old result room.new }
 {
     let mut count = n;
@@ -51,7 +51,7 @@ pub fn each(
     to: usize,
 ) -> usize
     ensures { Put
-        (eachOf rule (of_kind kind p s.now) (children_of s.now from to))
+        (each_of rule (of_kind kind p s.now) (children_of s.now from to))
         n room.old result room.new }
 {
     each_behind(room, n, rule, kind, p, s, 0, from, to)
@@ -71,7 +71,7 @@ fn each_within_behind(
     to: usize,
 ) -> usize
     ensures { Put
-        (eachOf rule (is_behind (of_kind kind p s.now) place) (items_within nest s.now from to))
+        (each_of rule (is_behind (of_kind kind p s.now) place) (items_within nest s.now from to))
         n room.old result room.new }
 {
     let mut count = n;
@@ -108,7 +108,7 @@ pub fn each_within(
     to: usize,
 ) -> usize
     ensures { Put
-        (eachOf rule (of_kind kind p s.now) (items_within nest s.now from to))
+        (each_of rule (of_kind kind p s.now) (items_within nest s.now from to))
         n room.old result room.new }
 {
     each_within_behind(room, n, rule, nest, kind, p, s, 0, from, to)

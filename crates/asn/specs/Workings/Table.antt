@@ -130,7 +130,7 @@ test_at n =
     (cond (eqb n 5) Test.yes_octet
     (cond (eqb n 6) Test.oid
     (cond (eqb n 7) Test.bits
-    (cond (eqb n 8) Test.named_bits_lem
+    (cond (eqb n 8) Test.bits_named
     (cond (eqb n 9) Test.nothing
     (cond (eqb n 10) Test.utc
     (cond (eqb n 11) Test.generalized

@@ -1,7 +1,7 @@
 -- A block put together: its length, its check and its fields.
 --     block_length, block_sound                  512 octets, and sound
 --     block_number, block_len, block_part, block_clear, block_data     its fields are those it was made of
---     check_small, get_d_past                     a check is below 65,521; what stands behind the first n octets of a joined list
+--     check_small, get_or_past                     a check is below 65,521; what stands behind the first n octets of a joined list
 -- Assumes nothing.
 use mathlib.Core.Path.{◌≡◌, refl}
 use mathlib.Core.Bool.{true}
@@ -20,8 +20,8 @@ unfolding check_of
 check_small b = omega arith
 
 -- what stands m past a list of n
-pub get_d_past : (p q : List ℕ) (n m : ℕ) → length p ≡ n → get_or (p ++ q) (n + m) 0 ≡ get_or q m 0
-get_d_past p q n m e = rw (← e) (get_or-append-add p q m 0)
+pub get_or_past : (p q : List ℕ) (n m : ℕ) → length p ≡ n → get_or (p ++ q) (n + m) 0 ≡ get_or q m 0
+get_or_past p q n m e = rw (← e) (get_or-append-add p q m 0)
 
 pub block_part : (number n j : ℕ) (d : List ℕ) → part_of (block_of number n j d) ≡ j
 unfolding block_of
@@ -46,7 +46,7 @@ module _ (number n j : ℕ) (d : List ℕ) (hnumber : number < 2 ^ 32) (hn : n <
       let body : List ℕ = body_of number n j d in
       let c : ℕ = check_of body in
       rw (take_at body (pair_of c) 510 body_length)
-      (omega (arith, check_small body, get_d_past body (pair_of c) 510 0 body_length, get_d_past body (pair_of c) 510 1 body_length))
+      (omega (arith, check_small body, get_or_past body (pair_of c) 510 0 body_length, get_or_past body (pair_of c) 510 1 body_length))
 
   pub block_sound : sound (block_of number n j d) ≡ true
   unfolding sound

@@ -21,7 +21,7 @@ module _ (s : List ℕ) (whole tbs version serial inner issuer period before the
     (issuer_read : issuer ≡ after s inner tbs.end) (period_read : period ≡ after s issuer tbs.end)
     (before_read : before ≡ first_in s period) (then_read : then ≡ after s before period.end)
     (subject_read : subject ≡ after s period tbs.end) (key_read : key ≡ after s subject tbs.end)
-    (List_read : list ≡ list_after s key tbs.end) (outer_read : outer ≡ after s tbs whole.end)
+    (list_read : list ≡ list_after s key tbs.end) (outer_read : outer ≡ after s tbs whole.end)
     (times_read : times ≡ validity_of s before then) where
   whole_is : whole ≡ whole_of s
   unfolding whole_of
@@ -69,7 +69,7 @@ module _ (s : List ℕ) (whole tbs version serial inner issuer period before the
 
   list_is : list ≡ extension_list_in s (tbs_of s)
   unfolding extension_list_in
-  list_is = List_read ∙ (λ i. list_after s (key_is i) (tbs_is i).end)
+  list_is = list_read ∙ (λ i. list_after s (key_is i) (tbs_is i).end)
 
   outer_is : outer ≡ outer_of s
   unfolding outer_of

@@ -1,7 +1,7 @@
 -- The fields of a certificate that fits are elements of it, and so are the places of rules 101 to 111.
 --     field_elements       the fields
 --     in_extended          the [3], if there is one
---     fields-at            rules 101 to 111
+--     fields_at            rules 101 to 111
 -- Assumes nothing.
 use mathlib.Core.Path.{◌≡◌, refl, sym, ◌∙◌}
 use mathlib.Core.List.Memᴰ

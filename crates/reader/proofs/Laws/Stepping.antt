@@ -162,15 +162,15 @@ module _ (d : List ℕ) (i : ℕ) (room : List ℕ) where
   abbrev item_by : Bool → Bool → Item
   item_by t b = cond t (item_of room (event_if b i (from d i))) Items.End
 
-  abbrev room_by_lem : Bool → Bool → List ℕ
-  room_by_lem t b = cond t (room_after room (event_if b i (from d i))) room
+  abbrev room_along : Bool → Bool → List ℕ
+  room_along t b = cond t (room_after room (event_if b i (from d i))) room
 
-  by_lost : (loss : Loss) (t b : Bool) → found_by t b ≡ Founds.Lost loss → (Items.Lost loss ≡ item_by t b) × (room ≡ room_by_lem t b)
+  by_lost : (loss : Loss) (t b : Bool) → found_by t b ≡ Founds.Lost loss → (Items.Lost loss ≡ item_by t b) × (room ≡ room_along t b)
   by_lost loss true true e = (cc, cc)
   by_lost loss true false e = (cc, refl)
   by_lost loss false b e = (cc, refl)
 
-  by_end : (t b : Bool) → found_by t b ≡ Founds.End → (Items.End ≡ item_by t b) × (room ≡ room_by_lem t b)
+  by_end : (t b : Bool) → found_by t b ≡ Founds.End → (Items.End ≡ item_by t b) × (room ≡ room_along t b)
   by_end true true e = (cc, cc)
   by_end true false e = (cc, refl)
   by_end false b e = (refl, refl)

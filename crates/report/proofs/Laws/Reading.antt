@@ -3,7 +3,7 @@
 --     decode_none, decode_next     the first entries: none, and those with entry k behind the k before it
 --     decode_take              they ask nothing of the octets behind them
 --     Small, entry_small       all four numbers of an entry are below 65,536; such is each that octets say
---     pair_back, read-back     a number that was written, and entries, whatever stands behind them
+--     pair_back, read_back     a number that was written, and entries, whatever stands behind them
 --     report_back              the entries in the room at the end
 -- Assumes nothing.
 use mathlib.Core.Path.{◌≡◌, refl, sym, ap, ap₂, ◌∙◌}

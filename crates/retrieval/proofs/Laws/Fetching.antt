@@ -1,7 +1,7 @@
 -- What is fetched from a position on.
 --     puts_octets, puts_none             octets that go into a buffer, or do not
 --     side_certificate, side_issuer      where the sides stand in a record
---     Held, held, never                  all that is known of the desk that a record was taken to
+--     Held, held, never_short, never_none             all that is known of the desk that a record was taken to
 --     here, past_record, past_lost, at_end     the records of a number from a position on, by what is found there
 --     first_put                          the first of them
 --     search_found, search_ended         the answer where the search stops
