@@ -38,7 +38,7 @@ fn text_of(path: &Path) -> String {
 fn paths_below(folder: &Path, found: &mut Vec<PathBuf>) {
     for entry in fs::read_dir(folder).unwrap_or_else(|e| panic!("{}: {e}", folder.display())) {
         let path = entry.expect("a folder's entry").path();
-        if path.ends_with("target") || path.ends_with(".git") {
+        if ["target", "out", ".git"].iter().any(|built| path.ends_with(built)) {
             continue;
         }
         if path.is_dir() {
@@ -236,7 +236,7 @@ fn every_name_on_a_page_is_one_that_we_have() {
     let mut paths = Vec::new();
     paths_below(&repository(), &mut paths);
     let (names, bases) = (known_names(&paths), bases());
-    assert!(names.contains("derSoundness") && names.contains("check_der"), "the sources are not read right");
+    assert!(names.contains("der_soundness") && names.contains("check_der"), "the sources are not read right");
     let mut dead = Vec::new();
     let mut unused: BTreeSet<&str> = EXCEPTIONS.iter().flat_map(|(_, texts)| texts.iter().copied()).collect();
     for page in pages() {
