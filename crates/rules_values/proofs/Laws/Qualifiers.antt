@@ -47,6 +47,7 @@ module _ (s : List ℕ) (policy : Head) (e : fits policy_information s policy �
   by_members x (g ∷ []) (present f) is h i =
       let second : qualifiers_of s policy ≡ g = second_is s policy x g [] is in
       members_of_lem 0x30 _ s g refl refl f (in_policy g (among is (behind here))) h (among (sym (ap (members_in s) second)) i)
+  by_members x (g ∷ (_ ∷ _)) x8 is h i = elim x8 [ ]
 
   pub qualifiers_of_lem : AllMembers s (qualifiers_of s policy)
   unfolding policy_information

@@ -1,0 +1,11 @@
+-- `rules_fields::field_rules` meets its contract. Assumes nothing.
+use borrow.Author.Rules.{rules}
+use Rattle.report.proofs.Laws.Rows.{◌⟫◌}
+use Rattle.rules_fields.specs.Rules.{field_rows}
+use Rattle.rules_fields.proofs.field_rules.Goals as goal
+
+pub returns : goal.returns
+unfolding field_rows
+returns c = 
+    rw (← c.issuer_in-i.ensures, ← c.fields_in-c.ensures)
+    (c.version_and_serial-first.ensures ⟫ c.algorithms_and_name-second.ensures ⟫ c.validity.ensures)

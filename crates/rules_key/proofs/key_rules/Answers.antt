@@ -1,0 +1,9 @@
+-- `rules_key::key_rules` meets its contract. Assumes nothing.
+use borrow.Author.Rules.{rules}
+use Rattle.rules_key.specs.Rules.{key_rows}
+use Rattle.report.proofs.Laws.Rows.{◌⟫◌}
+use Rattle.rules_key.proofs.key_rules.Goals as goal
+
+pub returns : goal.returns
+unfolding key_rows
+returns c = rw (← c.key_in-k.ensures) (c.algorithm_rules-first.ensures ⟫ c.rsa_rules.ensures)
