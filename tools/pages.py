@@ -18,9 +18,9 @@ def files_in(*folder, extension):
 
 
 def crates():
-    """(name, the crates that it rests on) of each line of crates.txt, bottom up."""
+    """(name, the crates that it rests on) of each line of crates.txt, bottom up. Behind the name may stand `staticlib`."""
     lines = [line for line in read('crates.txt').splitlines() if line and not line.startswith('#')]
-    return [(name.strip(), used.split()) for name, used in (line.split(':', 1) for line in lines)]
+    return [(name.split()[0], used.split()) for name, used in (line.split(':', 1) for line in lines)]
 
 
 def comment_lines(lines):

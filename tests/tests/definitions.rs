@@ -296,7 +296,10 @@ fn what_a_definition_names_is_told() {
     assert!(is_working(&key("a", "Workings.Two", "way")) && !is_working(&key("b", "Three", "last")));
     let reached = definitions.reached(BTreeSet::from([key("b", "Three", "last")]));
     assert_eq!(reached.len(), 4, "{reached:?}");
-    assert_eq!(handed_on("mod a;\npub use a::b;\npub use c::{d,\n    e,\n};\nuse f::g;\n"), ["b", "d", "e", ""]);
+    assert_eq!(
+        handed_on("mod a;\npub use a::b;\npub use c::{d,\n    e,\n};\nuse f::g;\n"),
+        ["b", "d", "e", ""]
+    );
     let page = "`other` (`crates/b/specs/Three.antt`), `way` of nowhere";
     assert_eq!(stated(&definitions, page), BTreeSet::from([key("b", "Three", "other")]));
 }

@@ -10,11 +10,11 @@ use comparison::lines::is_finding;
 
 /// Texts in backquotes that no rule below takes, each with the reason why it may stand there.
 const EXCEPTIONS: &[(&str, &[&str])] = &[
+    ("words of the language and of its kit", &["result ≡ definition (inputs)", "s.now", "os::fail"]),
     (
-        "words of the language and of its kit",
-        &["r ≡ definition (inputs)", "(λ c κs. tt)", "tie.spec", "now (s .exit)", "os::fail"],
+        "what `rt version` and the gate print",
+        &["rattle-kit-13f logic dac8208d650f15bf", "N passed, 0 failed"],
     ),
-    ("what `rt version` and the gate print", &["rattle-kit-5b logic 064da1ca440f63e7", "N passed, 0 failed"]),
     ("a word of a line of the listing, a reply of the program `answers`", &["stray", "departs at P"]),
     ("the C library's, a setting of cargo", &["pthread_getattr_np", "RUSTFLAGS=\"-C link-arg=..\""]),
     ("the operating system's", &["/proc/self/maps"]),
@@ -211,12 +211,12 @@ fn is_exception(text: &str) -> bool {
     EXCEPTIONS.iter().any(|(_, texts)| texts.contains(&text))
 }
 
-/// The pages: README.md and docs/*.md.
+/// The pages: README.md and docs/*.md, save the one on the port, which sets names of before beside those of today.
 fn pages() -> Vec<PathBuf> {
     let root = repository();
     let docs = fs::read_dir(root.join("docs")).expect("docs");
     let mut pages: Vec<PathBuf> = docs.map(|entry| entry.expect("a page").path()).collect();
-    pages.retain(|path| path.extension().is_some_and(|e| e == "md"));
+    pages.retain(|path| path.extension().is_some_and(|e| e == "md") && !path.ends_with("PORT.md"));
     pages.push(root.join("README.md"));
     pages.sort();
     pages
