@@ -23,6 +23,24 @@ def crates():
     return [(name.split()[0], used.split()) for name, used in (line.split(':', 1) for line in lines)]
 
 
+def edit(text):
+    """(words, [(file, old, new), ..]) of a must-fail edit: lines that begin with `#`, `file: `, `old: ` and `new: `; a file stands for all pairs behind it."""
+    words, pairs, file, old = [], [], None, None
+    for line in text.splitlines():
+        key, _, value = line.partition(' ')
+        if key == 'file:':
+            file = value.strip()
+        elif key == 'old:':
+            old = value
+        elif key == 'new:':
+            pairs.append((file, old, value))
+        elif line.startswith('#'):
+            words.append(line[1:].strip())
+        elif line.strip():
+            raise ValueError(f'a line of an edit that nothing reads: {line}')
+    return ' '.join(words), pairs
+
+
 def comment_lines(lines):
     """The comment that these lines begin with, without its slashes."""
     comment = []
