@@ -16,8 +16,6 @@ const EXCEPTIONS: &[(&str, &[&str])] = &[
         &["rattle-kit-13f logic dac8208d650f15bf", "N passed, 0 failed"],
     ),
     ("a word of a line of the listing, a reply of the program `answers`", &["stray", "departs at P"]),
-    ("the C library's, a setting of cargo", &["pthread_getattr_np", "RUSTFLAGS=\"-C link-arg=..\""]),
-    ("the operating system's", &["/proc/self/maps"]),
 ];
 
 /// Words with which a command line begins.
