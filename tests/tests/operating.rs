@@ -11,9 +11,6 @@ use std::time::{Duration, SystemTime};
 use comparison::commands::{command, folder, full_disk, open, outcome, repository, SAID};
 use comparison::program::{path_of, Program};
 
-/// Signal 13, a write to a pipe that nobody reads.
-const BROKEN_PIPE: Option<i32> = Some(128 + 13);
-
 fn sample(name: &str) -> PathBuf {
     repository().join("samples").join(name)
 }
@@ -50,7 +47,9 @@ fn a_listing_that_nobody_reads_does_not() {
     drop(running.stdout.take());
     let deck = fs::read(sample("night.deck")).expect("the sample");
     running.stdin.take().expect("a pipe").write_all(&deck).expect("the deck is read");
-    assert_eq!(running.wait().expect("it ends").code(), BROKEN_PIPE);
+    let ended = running.wait_with_output().expect("it ends");
+    assert_eq!(ended.status.code(), SAID);
+    assert_eq!(String::from_utf8_lossy(&ended.stderr), "decklint: standard output: Broken pipe\n");
 }
 
 #[test]
