@@ -11,12 +11,15 @@ fn has_effect(function: &Function) -> bool {
     function.signature().contains("->") || function.signature().contains("&mut")
 }
 
-/// The names of the parameters that are lent to be changed.
+/// The names of the parameters that are lent to be changed, without files and other streams, of which no contract can say
+/// what they take or give.
 fn lent(function: &Function) -> Vec<&str> {
+    let is_stream =
+        |parameter: &str| ["&mut impl Read", "&mut impl Write"].iter().any(|kind| parameter.ends_with(kind));
     function
         .signature()
-        .split(|c: char| c == ',' || c == '(')
-        .filter(|parameter| parameter.contains("&mut"))
+        .split(|c: char| c == ',' || c == '(' || c == ')')
+        .filter(|parameter| parameter.contains("&mut") && !is_stream(parameter.trim_end()))
         .filter_map(|parameter| parameter.split(':').next())
         .map(str::trim)
         .collect()
@@ -89,6 +92,9 @@ fn a_bare_function_is_told_apart() {
     };
     assert!(has_effect(&filling) && !settles_buffers(&filling));
     assert_eq!(lent(&filling), ["room"]);
+    let head = "fn load(file: &mut impl Read, room: &mut [u8], last: &mut impl Write) -> u8 ensures { length room.new ≡ 9 }";
+    let loading = Function { head: head.to_string(), ..filling };
+    assert!(settles_buffers(&loading) && lent(&loading) == ["room"]);
     let named = head_of("fn f() -> u8 ensures small { x } { 1 }");
     assert!(named.ends_with("} "));
 }
