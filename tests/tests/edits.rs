@@ -10,6 +10,7 @@ const AT_A_FACT: &[&str] = &[
     "./proofs/f/Answers.antt:9:4: error: `f-lem`: the two types differ only where one has `4`\n  expected type `x ≡ 4`\n  but this has type `x ≡ 5`",
     "./proofs/f/Answers.antt:9:4: error: `returns`: as printed, the two types first differ where one has `4` (expected), right after `≡`\n  and the other has `5` (found)",
     "./proofs/f/Answers.antt:9:4: error: `returns`: computed as far as they go, the two types differ only where one has `4` (expected) and the other has `5` (found)",
+    "./proofs/f/Answers.antt:9:4: error: `loop-i-init`: computed as a goal is, one side reads `Rest 1`\n  (expected)\n  computed as a goal is, one side reads `Rest 2`",
     "./proofs/f/Answers.antt:9:4: error: `returns`: give a proof of that as the last argument, `rw L t`\n  `rw` has no last argument, so what it leaves must be a path whose two ends are equal",
     "./proofs/f/Answers.antt:9:4: error: `returns`: on the face `i = 0` this λ's body is `a && b`\n  but the extension (path) type requires `a || b`",
     "./proofs/f/Answers.antt:9:4: error: `returns`: list the missing equation\n  `cc`: the equations do not join `a and b` to `false`, by congruence",
