@@ -38,3 +38,7 @@ uri_by s method h = has_method s method h && is_uri (location_of s h)
 -- 417 "each caIssuers entry not an HTTP URI", 423 "each OCSP entry not an HTTP URI" (document 02, CR 1)
 abbrev pub not_http_by : List ℕ → Method → Head → Bool
 not_http_by s method h = has_method s method h && not (is_http s (location_of s h))
+
+-- 504 and 505: an OCSP entry, or a caIssuers entry, that is an HTTP URI (document 02, CR 4: "AIA with HTTP entries of both methods")
+abbrev pub http_by : List ℕ → Method → Head → Bool
+http_by s method h = has_method s method h && is_http s (location_of s h)

@@ -1,7 +1,7 @@
 // The entries of an authority information access: AccessDescription, a SEQUENCE of a method and a location.
 ghost use Rattle.std.specs.Prelude.{◌≡◌};
 ghost use Rattle.der.specs.Comparing.{contents_are};
-ghost use Rattle.locations.specs.Access.{method_identifier, is_method, uri_by, not_http_by};
+ghost use Rattle.locations.specs.Access.{method_identifier, is_method, uri_by, not_http_by, http_by};
 
 use crate::uris::{is_http, is_uri};
 use der::Head;
@@ -43,4 +43,12 @@ pub fn not_http_by(s: &[u8], h: Head, method: Method) -> bool
 {
     let first = der::first_in(s, h);
     is_method(s, first, method) & !is_http(s, der::after(s, first, h.end))
+}
+
+// Whether an entry has the method and an HTTP URI as its location: rules 504 and 505 ask for one that does.
+pub fn http_by(s: &[u8], h: Head, method: Method) -> bool
+    ensures { result ≡ http_by s.now method h }
+{
+    let first = der::first_in(s, h);
+    is_method(s, first, method) & is_http(s, der::after(s, first, h.end))
 }

@@ -5,6 +5,6 @@ mod access;
 mod points;
 mod uris;
 
-pub use access::{Method, not_http_by, uri_by};
+pub use access::{Method, http_by, not_http_by, uri_by};
 pub use points::{full_name_of, restricted};
 pub use uris::{is_http, is_other_uri, is_uri};

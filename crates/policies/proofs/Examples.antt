@@ -4,7 +4,7 @@ use mathlib.Core.List.{List, [], ◌∷◌}
 use mathlib.Core.Bool.{Bool, true, false}
 use Prim.Native.Nat.{ℕ}
 use lib.ListN.{length}
-use Rattle.policies.specs.Policies.{is_below, policy_below, forum_arc, qualifiers_of, other_qualifier}
+use Rattle.policies.specs.Policies.{is_below, policy_below, federal_policy_arc, forum_arc, qualifiers_of, other_qualifier}
 use Rattle.octets.specs.Octets.{octets_from}
 use Rattle.octets.specs.Same.{same_by}
 use Rattle.octets.specs.Numbers.{number_from}
@@ -22,6 +22,9 @@ whole s = head_of s 0 (length s)
 abbrev below : List ℕ → Bool
 below s = policy_below s (whole s)
 
+abbrev federal : List ℕ → ℕ
+federal s = federal_policy_arc s (whole s)
+
 abbrev forum : List ℕ → ℕ
 forum s = forum_arc s (whole s)
 
@@ -38,6 +41,15 @@ pub below_right : (below (0x30 ∷ 11 ∷ 6 ∷ 9 ∷ 0x60 ∷ 0x86 ∷ 0x48 ∷
     (0x30 ∷ 12 ∷ 6 ∷ 10 ∷ 0x60 ∷ 0x86 ∷ 0x48 ∷ 1 ∷ 0x65 ∷ 3 ∷ 2 ∷ 1 ∷ 3 ∷ 0x0D ∷ []) ∷ []) ≡ (false ∷ true ∷ [])
 unfolding policy_below is_below head_of octets_from number_from oid subidentifiers subidentifier sevens
 below_right = refl
+
+-- the arc alone; 13 below it; below that; another policy; an arc that takes two octets, 128
+pub federal_right : (federal (0x30 ∷ 11 ∷ 6 ∷ 9 ∷ 0x60 ∷ 0x86 ∷ 0x48 ∷ 1 ∷ 0x65 ∷ 3 ∷ 2 ∷ 1 ∷ 3 ∷ []) ∷ federal
+    (0x30 ∷ 12 ∷ 6 ∷ 10 ∷ 0x60 ∷ 0x86 ∷ 0x48 ∷ 1 ∷ 0x65 ∷ 3 ∷ 2 ∷ 1 ∷ 3 ∷ 13 ∷ []) ∷ federal
+    (0x30 ∷ 13 ∷ 6 ∷ 11 ∷ 0x60 ∷ 0x86 ∷ 0x48 ∷ 1 ∷ 0x65 ∷ 3 ∷ 2 ∷ 1 ∷ 3 ∷ 13 ∷ 1 ∷ []) ∷ federal
+    (0x30 ∷ 12 ∷ 6 ∷ 10 ∷ 0x60 ∷ 0x86 ∷ 0x48 ∷ 1 ∷ 0x65 ∷ 3 ∷ 2 ∷ 1 ∷ 4 ∷ 13 ∷ []) ∷ federal
+    (0x30 ∷ 13 ∷ 6 ∷ 11 ∷ 0x60 ∷ 0x86 ∷ 0x48 ∷ 1 ∷ 0x65 ∷ 3 ∷ 2 ∷ 1 ∷ 3 ∷ 0x81 ∷ 0 ∷ []) ∷ []) ≡ (0 ∷ 13 ∷ 0 ∷ 0 ∷ 0 ∷ [])
+unfolding arc_below head_of octets_from number_from oid subidentifiers subidentifier sevens
+federal_right = refl
 
 -- a practice statement; a user notice; no qualifiers
 pub qualifiers_right : (qualifier (qualified 1) ∷ qualifier (qualified 2) ∷ (qualifiers_of (0x30 ∷ 3 ∷ 6 ∷ 1 ∷ 42 ∷ [])

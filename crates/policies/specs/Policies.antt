@@ -24,6 +24,11 @@ federal_arc = oid (2 ∷ 16 ∷ 840 ∷ 1 ∷ 101 ∷ 3 ∷ 2 ∷ 1 ∷ 3 ∷ []
 unfoldable pub policy_below : List ℕ → Head → Bool
 policy_below s h = is_below federal_arc (contents_of s (first_in s h))
 
+-- n of a PolicyInformation that names a policy 2.16.840.1.101.3.2.1.3.n with n below 128, 0 if it names another: 503 asks for "at least one policy of its
+-- printed list" (document 02, CR 4), whose last arcs are below that
+abbrev pub federal_policy_arc : List ℕ → Head → ℕ
+federal_policy_arc s h = arc_below federal_arc (contents_of s (first_in s h))
+
 -- the CA/Browser Forum's arc
 abbrev pub forum_policies : List ℕ
 forum_policies = oid (2 ∷ 23 ∷ 140 ∷ 1 ∷ 2 ∷ [])

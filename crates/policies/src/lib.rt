@@ -3,4 +3,4 @@
 
 mod policies;
 
-pub use policies::{forum_arc, is_federal, other_qualifier, qualifiers_of};
+pub use policies::{federal_arc, forum_arc, is_federal, other_qualifier, qualifiers_of};

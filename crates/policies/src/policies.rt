@@ -1,6 +1,6 @@
 // What a PolicyInformation names, and its qualifiers.
 ghost use Rattle.std.specs.Prelude.{◌≡◌};
-ghost use Rattle.policies.specs.Policies.{policy_below, forum_arc, qualifiers_of, other_qualifier};
+ghost use Rattle.policies.specs.Policies.{policy_below, federal_policy_arc, forum_arc, qualifiers_of, other_qualifier};
 
 use der::Head;
 
@@ -12,6 +12,15 @@ pub fn is_federal(s: &[u8], h: Head) -> bool
     let body = policy.body;
     let begins = octets::equals(s, body, 9, b"\x60\x86\x48\x01\x65\x03\x02\x01\x03");
     (9 < octets::minus(policy.end, body)) & begins
+}
+
+// The last arc of a PolicyInformation's policy, if it is one right below the arc of rule 409, else 0: rule 503 has a list of
+// them for each profile.
+pub fn federal_arc(s: &[u8], h: Head) -> u8
+    ensures { result ≡ federal_policy_arc s.now h }
+{
+    let policy = der::first_in(s, h);
+    der::arc_below(s, policy, b"\x60\x86\x48\x01\x65\x03\x02\x01\x03")
 }
 
 // The last arc of a PolicyInformation's policy, if it is one of the CA/Browser Forum's that rule 410 asks for, else 0.

@@ -9,6 +9,9 @@ use Rattle.profiles.specs.declared.fields.Profile.TheVariants.{Domain, Organizat
 abbrev pub digital_signature : ℕ
 digital_signature = 0
 
+abbrev pub non_repudiation : ℕ
+non_repudiation = 1
+
 abbrev pub key_encipherment : ℕ
 key_encipherment = 2
 

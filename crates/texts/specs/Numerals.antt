@@ -2,7 +2,7 @@
 use Rattle.std.specs.Prelude.{Bool, cond, ◌&&◌, List, [], ◌∷◌, ℕ, ◌+◌, ◌*◌, leb}
 use Rattle.texts.specs.declared.numerals.Numeral.{Numeral}
 use Rattle.texts.specs.declared.numerals.Numeral.TheVariants.{Number, Other}
-use Rattle.octets.specs.Characters.{is_digit, are_digits, digit_of}
+use Rattle.octets.specs.Characters.{are_digits, digit_of}
 
 -- the number that digits say, written on behind n
 unfoldable pub value_from : ℕ → List ℕ → ℕ

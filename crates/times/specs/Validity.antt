@@ -1,4 +1,4 @@
--- A validity's times, "kept with the form it had", and rules 109 to 111 (document 01, "Rules on fields"; document 02, CR 2).
+-- A validity's times, "kept with the form it had", and rules 109 to 111 (document 01, "Rules on fields"; document 02, CR 2), and what 508 asks of one (CR 4).
 use Rattle.std.specs.Prelude.{Bool, false, ◌&&◌, ℕ, ◌+◌, ◌-◌, ◌*◌, ltb, leb}
 use Rattle.times.specs.declared.calendar.Date.{Date}
 use Rattle.times.specs.declared.validity.Time.{Time}
@@ -14,6 +14,10 @@ date_of (General d) = d
 -- a time as a number that can be compared and subtracted, whatever its form
 unfoldable pub moment_of : Time → ℕ
 moment_of t = seconds_of (date_of t)
+
+-- on this date or later: 508 asks a PIV card for a UUID "if notBefore falls on 16 October 2015 or later" (document 02, CR 4)
+abbrev pub is_since : Date → Time → Bool
+is_since from t = leb (seconds_of from) (moment_of t)
 
 -- 109 "each GeneralizedTime before 2050"
 abbrev pub early_general : Time → Bool

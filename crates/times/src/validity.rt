@@ -1,6 +1,6 @@
 // The times of a validity, each kept with the form that it had, and what rules 109 to 111 ask of them.
 ghost use Rattle.std.specs.Prelude.{◌≡◌, ◌<◌, ◌^◌};
-ghost use Rattle.times.specs.Validity.{date_of, moment_of, early_general, reversed_of, span_of, within_days_of, within_years_of};
+ghost use Rattle.times.specs.Validity.{date_of, moment_of, is_since, early_general, reversed_of, span_of, within_days_of, within_years_of};
 
 use crate::anniversary::anniversary;
 use crate::calendar::{Date, seconds};
@@ -31,6 +31,13 @@ fn moment(t: Time) -> usize
     ensures { (result ≡ moment_of t) × (result < 2 ^ 43) }
 {
     seconds(date_of(t))
+}
+
+// Whether a time falls on a date or later: rule 508 asks for a UUID from one on.
+pub fn is_since(t: Time, from: Date) -> bool
+    ensures { result ≡ is_since from t }
+{
+    seconds(from) <= moment(t)
 }
 
 // Whether rule 109 speaks against this time: UTCTime could say it.

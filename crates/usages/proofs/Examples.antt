@@ -4,7 +4,7 @@ use mathlib.Core.List.{List, [], ◌∷◌, map}
 use mathlib.Core.Bool.{Bool, true, false}
 use Prim.Native.Nat.{ℕ}
 use lib.ListN.{length}
-use Rattle.usages.specs.Usage.{bit_at, any_below, usage_of, other_bits}
+use Rattle.usages.specs.Usage.{bit_at, any_below, usage_of, other_bits, signs_alone}
 use Rattle.octets.specs.Octets.{is_one_of}
 use Rattle.profiles.specs.Values.{digital_signature, key_encipherment, key_agreement}
 use Rattle.usages.specs.Purposes.{purpose_arc}
@@ -67,6 +67,42 @@ Right es = map (λ (e : Example). e.said) es ≡ map (λ (e : Example). e.right)
 pub usages_right : Right usages
 unfolding usages other_bits any_below is_one_of head_of octets_from number_from
 usages_right = refl
+
+-- 502's, without non_repudiation and with it
+abbrev alone : List ℕ → Bool
+alone s = signs_alone (usage_of s (whole s)) false
+
+abbrev lasting : List ℕ → Bool
+lasting s = signs_alone (usage_of s (whole s)) true
+
+unfoldable pub signatures : List Example
+signatures =
+    -- digital_signature alone; with non_repudiation; that alone; both and key_encipherment
+    is (alone (3 ∷ 2 ∷ 7 ∷ 0x80 ∷ [])) true
+    ∷ is (lasting (3 ∷ 2 ∷ 7 ∷ 0x80 ∷ [])) false
+    ∷ is (alone (3 ∷ 2 ∷ 6 ∷ 0xC0 ∷ [])) false
+    ∷ is (lasting (3 ∷ 2 ∷ 6 ∷ 0xC0 ∷ [])) true
+    ∷ is (alone (3 ∷ 2 ∷ 6 ∷ 0x40 ∷ [])) false
+    ∷ is (lasting (3 ∷ 2 ∷ 6 ∷ 0x40 ∷ [])) false
+    ∷ is (alone (3 ∷ 2 ∷ 5 ∷ 0xE0 ∷ [])) false
+    ∷ is (lasting (3 ∷ 2 ∷ 5 ∷ 0xE0 ∷ [])) false
+    -- digital_signature and key_encipherment
+    ∷ is (alone (3 ∷ 2 ∷ 5 ∷ 0xA0 ∷ [])) false
+    ∷ is (lasting (3 ∷ 2 ∷ 5 ∷ 0xA0 ∷ [])) false
+    -- decipherOnly (8) besides; alone
+    ∷ is (alone (3 ∷ 3 ∷ 7 ∷ 0x80 ∷ 0x80 ∷ [])) false
+    ∷ is (lasting (3 ∷ 3 ∷ 7 ∷ 0xC0 ∷ 0x80 ∷ [])) false
+    ∷ is (alone (3 ∷ 3 ∷ 7 ∷ 0 ∷ 0x80 ∷ [])) false
+    -- no bit; no contents at all
+    ∷ is (alone (3 ∷ 1 ∷ 0 ∷ [])) false
+    ∷ is (lasting (3 ∷ 1 ∷ 0 ∷ [])) false
+    ∷ is (alone (3 ∷ 0 ∷ [])) false
+    ∷ is (lasting (3 ∷ 0 ∷ [])) false
+    ∷ []
+
+pub signatures_right : Right signatures
+unfolding signatures other_bits any_below is_one_of head_of octets_from number_from
+signatures_right = refl
 
 -- ---- purposes
 

@@ -1,2 +1,3 @@
 -- Laws of the definitions, by file.
 pub mod Usage
+pub mod Alone

@@ -1,11 +1,11 @@
--- Key usage, which rules 404, 405 and 422 ask for: a named BIT STRING. The first contents octet says how many bits are unused (they are 0, X.690, 11.2.1); the bits
+-- Key usage, which rules 404, 405, 422 and 502 ask for: a named BIT STRING. The first contents octet says how many bits are unused (they are 0, X.690, 11.2.1); the bits
 -- follow, bit 0 the high bit of the first octet (8.6.2.1).
 use Rattle.std.specs.Prelude.{List, [], ◌∷◌, Bool, false, cond, not, ◌&&◌, ◌||◌, ℕ, zero, suc, ◌-◌, ◌*◌, ◌/◌, ◌%◌, ◌^◌, length, eqb}
 use Rattle.octets.specs.Octets.{octet_at}
 use Rattle.der.specs.Contents.{contents_of}
 use Rattle.der.specs.declared.header.Head.{Head}
 use Rattle.octets.specs.Octets.{is_one_of}
-use Rattle.profiles.specs.Values.{digital_signature, key_cert_sign, crl_sign}
+use Rattle.profiles.specs.Values.{digital_signature, non_repudiation, key_cert_sign, crl_sign}
 
 -- the octets of bits in the contents of a BIT STRING
 abbrev pub bit_octets : List ℕ → List ℕ
@@ -38,6 +38,13 @@ other_bit bits names k = not (may_be_set names k) && bit_at bits k
 -- Some bit is set that may not be: 405 "no bit besides: keyEncipherment with RSA, keyAgreement with EC (S); none (O or another key)" is broken.
 unfoldable pub other_bits : List ℕ → List ℕ → Bool
 other_bits bits names = any_below (other_bit bits names) (8 * length bits)
+
+-- 502 "usage exactly digitalSignature, for 5 with nonRepudiation" (document 02, CR 4): digital_signature is set, non_repudiation is or is not, as asked, and
+-- no other bit is
+abbrev pub signs_alone : List ℕ → Bool → Bool
+signs_alone bits lasting =
+    bit_at bits digital_signature
+    && (cond lasting (bit_at bits non_repudiation) (not (bit_at bits non_repudiation)) && not (other_bits bits (non_repudiation ∷ [])))
 
 -- the numbers below n that pass the test
 unfoldable pub passing_below : (ℕ → Bool) → ℕ → List ℕ

@@ -5,4 +5,4 @@ mod purposes;
 mod usage;
 
 pub use purposes::purpose_arc;
-pub use usage::{other_usage, signs, signs_for_authority};
+pub use usage::{other_usage, signs, signs_alone, signs_for_authority};

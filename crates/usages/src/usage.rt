@@ -1,9 +1,9 @@
 // The bits of key usage. The first contents octet says how many bits are unused, and bit 0 is the high bit of the octet
 // after it.
-ghost use Rattle.std.specs.Prelude.{◌≡◌, [], ◌∷◌, ◌+◌, ◌-◌};
+ghost use Rattle.std.specs.Prelude.{◌≡◌, cond, not, [], ◌∷◌, ◌+◌, ◌-◌};
 ghost use Rattle.octets.specs.Octets.{octets_from};
-ghost use Rattle.profiles.specs.Values.{digital_signature};
-ghost use Rattle.usages.specs.Usage.{bit_octets, bit_at, any_below, usage_of, signs_for_authority, other_bit, other_bits, bits_in};
+ghost use Rattle.profiles.specs.Values.{digital_signature, non_repudiation};
+ghost use Rattle.usages.specs.Usage.{bit_octets, bit_at, any_below, usage_of, signs_for_authority, other_bit, other_bits, signs_alone, bits_in};
 ghost use Rattle.usages.specs.Workings.Usage.{any_set, odd_alone};
 
 use der::Head;
@@ -88,4 +88,28 @@ pub fn other_usage(s: &[u8], v: Head, allowed: u8) -> bool
 {
     let body = v.body;
     other_bits(s, body, octets::minus(v.end, body), allowed)
+}
+
+// Whether nonRepudiation is set.
+fn lasts(s: &[u8], v: Head) -> bool
+    ensures { result ≡ bit_at (usage_of s.now v) non_repudiation }
+{
+    let body = v.body;
+    let n = octets::minus(v.end, body);
+    let bits = octets::octet_past(s, body, 1);
+    (1 < n) & (bits / 64 % 2 == 1)
+}
+
+// Whether a bit is as asked.
+fn as_asked(bit: bool, asked: bool) -> bool
+    ensures { result ≡ cond asked bit (not bit) }
+{
+    if asked { bit } else { !bit }
+}
+
+// Rule 502: whether digitalSignature is set, with nonRepudiation (of weight 0x40 in its octet) or without, and nothing else.
+pub fn signs_alone(s: &[u8], v: Head, lasting: bool) -> bool
+    ensures { result ≡ signs_alone (usage_of s.now v) lasting }
+{
+    signs(s, v) & (as_asked(lasts(s, v), lasting) & !other_usage(s, v, 0x40))
 }

@@ -2,11 +2,10 @@
 use native.Mathlib.Omega.{arith}
 use lib.ListN.{length-take}
 use lib.Seq.{take_all}
-use borrow.Author.Rules.{rules}
 use Rattle.blocks.proofs.check.check_of.Goals as goal
 
 pub returns-then-block-lt510 : goal.returns-then-block-lt510
-returns-then-block-lt510 c = 
+returns-then-block-lt510 c =
     let b = c.args.block.now in
     rw (take_all 510 b (omega arith)) c.check_body.ensures
 

@@ -1,10 +1,8 @@
 -- `blocks::check::low_sum` meets its contract: the sum is that of the octets passed, each of which adds at most 255 * 255. Assumes nothing.
-use mathlib.Core.Path.{◌≡◌, ap, ◌∙◌}
-use Prim.Native.Nat.{ℕ, ◌+◌, ◌*◌, ◌-◌, ◌%◌, ◌≤◌}
-use native.Mathlib.Nat.{mul-le-mul}
-use native.Mathlib.Omega.{arith}
-use lib.ListN.{length, get_or}
-use Rattle.blocks.proofs.Laws.Weigh.{Summed, sum_next, sum_all, low_parts}
+use mathlib.Core.Path.{◌≡◌}
+use Prim.Native.Nat.{◌+◌, ◌-◌, ◌%◌}
+use lib.ListN.{length}
+use Rattle.blocks.proofs.Laws.Weigh.{Summed}
 use Rattle.blocks.proofs.check.low_sum.Given as goal
 
 abbrev pub invariant-loop-i : goal.invariant-loop-i

@@ -1,8 +1,7 @@
 -- `blocks::check::plain_sum` meets its contract: the sum is that of the octets passed. Assumes nothing.
-use Prim.Native.Nat.{◌-◌, ◌≤◌}
-use native.Mathlib.Omega.{arith}
-use lib.ListN.{length, get_or}
-use Rattle.blocks.proofs.Laws.Weigh.{Summed, sum_next, sum_all, plain_apart}
+use Prim.Native.Nat.{◌-◌}
+use lib.ListN.{length}
+use Rattle.blocks.proofs.Laws.Weigh.{Summed}
 use Rattle.blocks.proofs.check.plain_sum.Given as goal
 
 abbrev pub invariant-loop-i : goal.invariant-loop-i

@@ -1,6 +1,6 @@
 use mathlib.Core.Path.{◌≡◌, refl, sym, ◌∙◌}
 use mathlib.Core.Bool.{true, false}
-use Prim.Native.Nat.{◌+◌, ◌-◌}
+use Prim.Native.Nat.{◌+◌}
 use native.Mathlib.Omega.{arith}
 use lib.Dec.{eqb}
 use lib.ListN.{drop}
@@ -16,21 +16,21 @@ pub loop-i-init : goal.loop-i-init
 loop-i-init c = refl
 
 pub returns-then-octet_past-ne0 : goal.returns-then-octet_past-ne0
-returns-then-octet_past-ne0 c = 
+returns-then-octet_past-ne0 c =
     let l = c.loop-i in
     let b = c.args.block.now in
     let f : eqb (octet_at b (8 + l.i)) 0 ≡ false = ne_eqb _ _ (λ e. c.if-octet_past-ne0.true (c.octet_past.ensures ∙ e)) in
     sym (l.invariant ∙ fill_next b l.i c.loop-i-test.true ∙ and_not_left (are_zero (drop (l.i + 1) (data_of b))) f)
 
 pub loop-i-preserved : goal.loop-i-preserved
-loop-i-preserved c = 
+loop-i-preserved c =
     let l = c.loop-i in
     let b = c.args.block.now in
     let t : eqb (octet_at b (8 + l.i)) 0 ≡ true = eq-eqb _ _ (sym c.octet_past.ensures ∙ c.if-octet_past-ne0.false) in
     l.invariant ∙ fill_next b l.i c.loop-i-test.true ∙ and_passed (are_zero (drop (l.i + 1) (data_of b))) t
 
 pub returns : goal.returns
-returns c = 
+returns c =
     let l = c.loop-i in
     let b = c.args.block.now in
     sym (l.invariant ∙ fill_done b l.i (omega arith))

@@ -1,16 +1,9 @@
 -- `blocks::fields::is_filled` meets its contract: the fill is zero exactly if it is from octet i on. Assumes nothing.
-use mathlib.Core.Path.{◌≡◌, refl, sym, ◌∙◌}
-use mathlib.Core.Bool.{true, false}
-use Prim.Native.Nat.{◌+◌, ◌-◌}
-use native.Mathlib.Omega.{arith}
-use lib.Dec.{eqb}
+use mathlib.Core.Path.{◌≡◌}
+use Prim.Native.Nat.{◌-◌}
 use lib.ListN.{drop}
-use borrow.Author.Tests.{eq-eqb, ne_eqb}
 use Rattle.blocks.specs.Block.{data_of}
 use Rattle.blocks.specs.Record.{are_zero}
-use Rattle.octets.specs.Octets.{octet_at}
-use Rattle.blocks.proofs.Laws.Logic.{and_not_left, and_passed}
-use Rattle.blocks.proofs.Laws.Fill.{fill_next, fill_done}
 use Rattle.blocks.proofs.fields.is_filled.Given as goal
 
 abbrev pub invariant-loop-i : goal.invariant-loop-i

@@ -7,7 +7,7 @@ use Rattle.der.proofs.comparing.same_contents.Goals as goal
 
 pub returns : goal.returns
 unfolding contents_are
-returns c = 
+returns c =
     let a = c.args in
     c.same_stretch.ensures
     ∙ (λ i. same_by exactly (octets_from a.s.now a.a.body (c.minus-n.ensures i))

@@ -7,7 +7,7 @@ use Rattle.der.proofs.comparing.same_element.Goals as goal
 
 pub returns : goal.returns
 unfolding octets_are
-returns c = 
+returns c =
     let a = c.args in
     c.same_stretch.ensures
     ∙ (λ i. same_by exactly (octets_from a.s.now a.a.at (c.minus-n.ensures i))

@@ -1,10 +1,7 @@
 -- `der::contents::low_zero` meets its contract. Assumes nothing.
 use mathlib.Core.Path.{ap, sym}
 use Prim.Native.Nat.{ℕ, ◌%◌}
-use native.Mathlib.Omega.{arith}
-use lib.Pow.{pow_pos}
 use lib.Dec.{eqb}
-use borrow.Author.Rules.{rules}
 use Rattle.der.proofs.Laws.Contents.{byte_shift, byte_mod}
 use Rattle.der.proofs.contents.low_zero.Goals as goal
 
@@ -12,14 +9,14 @@ use Rattle.der.proofs.contents.low_zero.Goals as goal
 -- ? rem-result c =
 -- ?     let k = c.before.args.unused in
 -- ?     omega (arith, byte_shift k c.if1.true, pow_pos k)
--- ? 
+-- ?
 
 pub returns-then-unused-lt8 : goal.returns-then-unused-lt8
-returns-then-unused-lt8 c = 
+returns-then-unused-lt8 c =
     let a = c.args in
     ap (λ (m : ℕ). eqb (a.b % m) 0) (byte_shift a.unused c.if-unused-lt8.true)
 
 pub returns-else-unused-lt8 : goal.returns-else-unused-lt8
-returns-else-unused-lt8 c = 
+returns-else-unused-lt8 c =
     let a = c.args in
     ap (λ (m : ℕ). eqb m 0) (sym (byte_mod a.b a.unused c.ranges.b.fits c.if-unused-lt8.false))

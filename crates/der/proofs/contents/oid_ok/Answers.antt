@@ -1,8 +1,4 @@
-use mathlib.Core.Path.{◌≡◌, sym, ◌∙◌}
-use Prim.Native.Nat.{◌+◌, ◌-◌}
-use native.Mathlib.Omega.{arith}
-use Rattle.der.specs.Contents.{oid_ok, arcs_ok}
-use Rattle.octets.specs.Octets.{octets_from}
+use mathlib.Core.Path.{sym, ◌∙◌}
 use Rattle.der.proofs.Laws.Contents.{oid_none, oid_some, arcs_bad, arcs_good, arcs_done}
 use Rattle.der.proofs.contents.oid_ok.Goals as goal
 
@@ -13,18 +9,18 @@ pub loop-k-init : goal.loop-k-init
 loop-k-init c = let a = c.args in oid_some a.s.now a.body a.n c.if-n-eq0.false
 
 pub returns-then-bad : goal.returns-then-bad
-returns-then-bad c = 
+returns-then-bad c =
     let a = c.args in
     sym (c.loop-k.invariant ∙ arcs_bad a.s.now a.body a.n c.loop-k.k c.loop-k.fresh c.octet_past-b.result
     c.loop-k-test.true c.octet_past-b.ensures c.if-bad.true)
 
 pub loop-k-preserved : goal.loop-k-preserved
-loop-k-preserved c = 
+loop-k-preserved c =
     let a = c.args in
     c.loop-k.invariant ∙ arcs_good a.s.now a.body a.n c.loop-k.k c.loop-k.fresh c.octet_past-b.result
     c.loop-k-test.true c.octet_past-b.ensures c.if-bad.false
 
 pub returns : goal.returns
-returns c = 
+returns c =
     let a = c.args in
     sym (c.loop-k.invariant ∙ arcs_done a.s.now a.body a.n c.loop-k.k c.loop-k.fresh c.loop-k-test.false)

@@ -1,10 +1,8 @@
 -- `der::contents::oid_ok` meets its contract. The invariant: the answer is that of the octets from the kth on. Assumes nothing.
-use mathlib.Core.Path.{◌≡◌, sym, ◌∙◌}
+use mathlib.Core.Path.{◌≡◌}
 use Prim.Native.Nat.{◌+◌, ◌-◌}
-use native.Mathlib.Omega.{arith}
 use Rattle.der.specs.Contents.{oid_ok, arcs_ok}
 use Rattle.octets.specs.Octets.{octets_from}
-use Rattle.der.proofs.Laws.Contents.{oid_none, oid_some, arcs_bad, arcs_good, arcs_done}
 use Rattle.der.proofs.contents.oid_ok.Given as goal
 
 abbrev pub invariant-loop-k : goal.invariant-loop-k

@@ -11,7 +11,7 @@ unfolding primitive_ok
 returns-in-1 c = rw c.in-1.is c.boolean_ok.ensures
 
 pub returns-in-2 : goal.returns-in-2
-returns-in-2 c = 
+returns-in-2 c =
     let a = c.args in
     c.integer_ok.ensures ∙ sym (number_integer a.number (octets_from a.s.now a.body a.n) c.in-2.is)
 
@@ -28,7 +28,7 @@ unfolding primitive_ok
 returns-in-6 c = rw c.in-6.is c.oid_ok.ensures
 
 pub returns-in_default : goal.returns-in_default
-returns-in_default c = 
+returns-in_default c =
     let a = c.args in
     ap not c.holds_elements.ensures ∙ sym (number_other a.number (octets_from a.s.now a.body a.n) c.in_default.in_default-own.rest.0.0.0.0.1
     c.in_default.in_default-own.rest.0.0.0.1 c.in_default.in_default-own.rest.0.0.1 c.in_default.in_default-own.rest.0.1 c.in_default.in_default-own.rest.1)

@@ -3,7 +3,6 @@ use mathlib.Core.Path.{refl, sym, ap, ◌∙◌}
 use mathlib.Core.Bool.{true}
 use Prim.Native.Nat.{◌+◌, ◌≤◌}
 use native.Mathlib.Omega.{arith}
-use borrow.Author.Rules.{rules}
 use borrow.Author.Tests.{leb-true, leb-false}
 use Rattle.der.specs.Header.{head_if}
 use Rattle.octets.specs.Octets.{octet_at}
@@ -11,36 +10,36 @@ use Rattle.der.proofs.Laws.Header.{head_short, head_narrow, head_outside}
 use Rattle.der.proofs.header.head_at.Goals as goal
 
 pub bounds-s-at : goal.bounds-s-at
-bounds-s-at c = 
+bounds-s-at c =
     let inside : c.args.at + 2 ≤ c.args.end = let a = c.args in
     leb-true (a.at + 2) a.end (sym c.within.ensures ∙ c.if-within.true) in
     omega (arith, inside)
 
 pub overflow_add-first : goal.overflow_add-first
-overflow_add-first c = 
+overflow_add-first c =
     let inside : c.args.at + 2 ≤ c.args.end = let a = c.args in
     leb-true (a.at + 2) a.end (sym c.within.ensures ∙ c.if-within.true) in
     omega (arith, inside)
 
 pub bounds-s-at-then-within : goal.bounds-s-at-then-within
-bounds-s-at-then-within c = 
+bounds-s-at-then-within c =
     let inside : c.args.at + 2 ≤ c.args.end = let a = c.args in
     leb-true (a.at + 2) a.end (sym c.within.ensures ∙ c.if-within.true) in
     omega (arith, inside)
 
 pub returns-then-first-lt128 : goal.returns-then-first-lt128
-returns-then-first-lt128 c = 
+returns-then-first-lt128 c =
     let a = c.args in
     c.head_if.ensures ∙ (ap (head_if true a.at a.end (octet_at a.s.now a.at) 2) c.wide.ensures.0 ∙ head_short a.s.now
     a.at a.end (octet_at a.s.now a.at) (octet_at a.s.now (a.at + 1)) c.if-end-s.true refl refl
     c.if-first-lt128.true)
 
 pub returns-then-end-s : goal.returns-then-end-s
-returns-then-end-s c = 
+returns-then-end-s c =
     let a = c.args in
     c.broken_head.ensures ∙ sym (head_narrow a.s.now a.at a.end (leb-false (a.at + 2) a.end (sym c.within.ensures ∙ c.if-within.false)))
 
 pub returns : goal.returns
-returns c = 
+returns c =
     let a = c.args in
     c.broken_head-2.ensures ∙ sym (head_outside a.s.now a.at a.end c.if-end-s.false)

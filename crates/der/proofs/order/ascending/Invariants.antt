@@ -1,15 +1,11 @@
 -- `der::ascending` meets its contract. The invariant: the answer is that of the elements from i on, after the one from `from` to i.
 -- Assumes nothing.
-use mathlib.Core.Path.{◌≡◌, sym, ◌∙◌}
+use mathlib.Core.Path.{◌≡◌}
 use mathlib.Core.List.{map}
 use Prim.Native.Nat.{◌-◌}
-use native.Mathlib.Omega.{arith}
-use borrow.Author.Tests.{not-true, not-false}
 use Rattle.der.specs.Header.{children_of}
 use Rattle.der.specs.Order.{ascend_from, ascending, octets_of}
 use Rattle.octets.specs.Octets.{octets_from}
-use Rattle.der.proofs.Laws.Header.{head_forward}
-use Rattle.der.proofs.Laws.Order.{ascend_begins, ascend_done, ascend_bad, ascend_next}
 use Rattle.der.proofs.order.ascending.Given as goal
 
 abbrev pub invariant-loop-i : goal.invariant-loop-i

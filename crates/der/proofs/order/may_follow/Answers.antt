@@ -1,5 +1,4 @@
 -- `der::order::may_follow` meets its contract. Assumes nothing.
-use borrow.Author.Rules.{rules}
 use Rattle.der.proofs.order.may_follow.Goals as goal
 
 pub returns-then-set : goal.returns-then-set

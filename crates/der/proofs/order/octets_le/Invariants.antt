@@ -1,11 +1,8 @@
 -- `der::octets_le` meets its contract. The invariant: the answer is that of the octets from the kth on. Assumes nothing.
-use mathlib.Core.Path.{◌≡◌, sym, ◌∙◌}
+use mathlib.Core.Path.{◌≡◌}
 use Prim.Native.Nat.{◌+◌, ◌-◌}
-use native.Mathlib.Nat.{add-zero, sub-zero}
-use native.Mathlib.Omega.{arith}
 use Rattle.der.specs.Order.{octets_le}
 use Rattle.octets.specs.Octets.{octets_from}
-use Rattle.der.proofs.Laws.Order.{le_done, le_short, le_below, le_above, le_same}
 use Rattle.der.proofs.order.octets_le.Given as goal
 
 abbrev pub invariant-loop-k : goal.invariant-loop-k

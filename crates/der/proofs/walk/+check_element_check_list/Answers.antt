@@ -46,10 +46,10 @@ check_list-loop-i-preserved t c =
     let a = c.args in
     let next : c.if-not-is_sound.found ≡ and_then c.loop-i.found c.check_element-held.result
     = elim c.if-not-is_sound.branch [
-        check_list-then-not-is_sound w ↦ w.found-is ∙ w.and_then-found.ensures
+      | check_list-then-not-is_sound w ↦ w.found-is ∙ w.and_then-found.ensures
       | check_list-else-not-is_sound w ↦ then_if c.loop-i.found c.check_element-held.result c.if-not-is_sound.found
           c.is_sound.result c.is_sound.ensures w.if-not-is_sound.false w.found-is
-      ] in
+    ] in
     c.loop-i.invariant ∙ list_next a.s.now a.depth a.at a.set a.body a.end c.loop-i.ascends c.loop-i.found
     (octets_from a.s.now c.loop-i.from (c.loop-i.i - c.loop-i.from)) c.loop-i.i c.head_at-member.result c.check_element-held.result
     c.if-not-is_sound.found c.may_follow-ascends.result c.loop-i-test.true c.head_at-member.ensures c.check_element-held.ensures next

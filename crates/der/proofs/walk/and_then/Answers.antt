@@ -1,6 +1,5 @@
 -- `der::walk::and_then` meets its contract. Assumes nothing.
 use mathlib.Core.Path.{sym}
-use borrow.Author.Rules.{rules}
 use Rattle.der.proofs.Laws.Walks.{then_sound}
 use Rattle.der.proofs.walk.and_then.Goals as goal
 

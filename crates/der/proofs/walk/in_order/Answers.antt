@@ -1,5 +1,4 @@
 -- `der::walk::in_order` meets its contract. Assumes nothing.
-use borrow.Author.Rules.{rules}
 use Rattle.der.proofs.walk.in_order.Goals as goal
 
 pub returns : goal.returns

@@ -1,5 +1,4 @@
 -- `octets::comparing::fold` meets its contract. Assumes nothing.
-use borrow.Author.Rules.{rules}
 use Rattle.octets.proofs.comparing.fold.Goals as goal
 
 pub returns-in-AnyCase : goal.returns-in-AnyCase

@@ -1,5 +1,4 @@
 -- `octets::lower_case` meets its contract. Assumes nothing.
-use borrow.Author.Rules.{rules}
 use borrow.Author.Tests.{le-leb, lt-leb}
 use Rattle.octets.proofs.comparing.lower_case.Goals as goal
 

@@ -1,9 +1,5 @@
-use mathlib.Core.Path.{◌≡◌, sym, ap, ◌∙◌}
-use Prim.Native.Nat.{◌+◌, ◌-◌}
+use mathlib.Core.Path.{sym, ap, ◌∙◌}
 use native.Mathlib.Nat.{add-zero, sub-zero}
-use native.Mathlib.Omega.{arith}
-use Rattle.octets.specs.Octets.{octets_from}
-use Rattle.octets.specs.Same.{same_by}
 use Rattle.octets.specs.Workings.Same.{fold_of}
 use Rattle.octets.proofs.Laws.Same.{same_done, same_next, same_apart}
 use Rattle.octets.proofs.comparing.same_by.Goals as goal

@@ -1,12 +1,9 @@
 -- `octets::comparing::same_by_lem` meets its contract. The invariant: the answer is that of the octets from the kth on. Assumes nothing.
-use mathlib.Core.Path.{◌≡◌, sym, ap, ◌∙◌}
+use mathlib.Core.Path.{◌≡◌}
 use Prim.Native.Nat.{◌+◌, ◌-◌}
-use native.Mathlib.Nat.{add-zero, sub-zero}
-use native.Mathlib.Omega.{arith}
 use Rattle.octets.specs.Octets.{octets_from}
 use Rattle.octets.specs.Same.{same_by}
 use Rattle.octets.specs.Workings.Same.{fold_of}
-use Rattle.octets.proofs.Laws.Same.{same_done, same_next, same_apart}
 use Rattle.octets.proofs.comparing.same_by.Given as goal
 
 abbrev pub invariant-loop-k : goal.invariant-loop-k

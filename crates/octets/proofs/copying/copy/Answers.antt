@@ -1,6 +1,5 @@
 -- `octets::copying::copy` meets its contract: the test is the definition's. Assumes nothing.
 use mathlib.Core.Path.{sym, ◌∙◌}
-use borrow.Author.Rules.{rules}
 use Rattle.octets.proofs.Laws.Copying.{copied_paste, copied_inside, copied_else}
 use Rattle.octets.proofs.copying.copy.Goals as goal
 

@@ -1,8 +1,8 @@
 use mathlib.Core.Path.{◌≡◌, refl, sym, ap, ap₂, ◌∙◌}
-use Prim.Native.Nat.{ℕ, ◌+◌, ◌-◌, ◌≤◌}
+use Prim.Native.Nat.{ℕ, ◌+◌}
 use native.Mathlib.Omega.{arith}
 use native.Mathlib.Numerals.{add-one}
-use lib.ListN.{length, get_or, drop, set, length-set, length-drop}
+use lib.ListN.{drop, set, length-set, length-drop}
 use lib.Seq.{paste, paste-zero, paste-suc, get_or-drop}
 use Rattle.octets.proofs.copying.copy_inside.Goals as goal
 

@@ -1,10 +1,8 @@
 -- `octets::copying::copy_inside` meets its contract: the octets passed are pasted over those of `out`. Assumes nothing.
-use mathlib.Core.Path.{◌≡◌, refl, sym, ap, ap₂, ◌∙◌}
-use Prim.Native.Nat.{ℕ, ◌+◌, ◌-◌, ◌≤◌}
-use native.Mathlib.Omega.{arith}
-use native.Mathlib.Numerals.{add-one}
-use lib.ListN.{length, get_or, drop, set, length-set, length-drop}
-use lib.Seq.{paste, paste-zero, paste-suc, get_or-drop}
+use mathlib.Core.Path.{◌≡◌}
+use Prim.Native.Nat.{◌-◌, ◌≤◌}
+use lib.ListN.{length, drop}
+use lib.Seq.{paste}
 use Rattle.octets.proofs.copying.copy_inside.Given as goal
 
 abbrev pub invariant-loop-i : goal.invariant-loop-i

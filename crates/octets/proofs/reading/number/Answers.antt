@@ -1,9 +1,8 @@
 use mathlib.Core.Path.{◌≡◌, ap, ◌∙◌}
-use Prim.Native.Nat.{◌+◌, ◌-◌, ◌<◌, ◌≤◌, min}
+use Prim.Native.Nat.{◌+◌, ◌<◌, ◌≤◌}
 use native.Mathlib.Nat.{add-zero, sub-zero}
 use native.Mathlib.Omega.{arith}
-use Rattle.octets.specs.Octets.{octet_at, octets_from}
-use Rattle.octets.specs.Numbers.{number_from, number_of, largest}
+use Rattle.octets.specs.Octets.{octet_at}
 use Rattle.octets.proofs.Laws.Numbers.{number_done, number_next}
 use Rattle.octets.proofs.reading.number.Goals as goal
 

@@ -1,12 +1,9 @@
 -- `octets::number` meets its contract. The invariant: the answer is the value so far, written on by the octets from the kth on.
 -- Assumes nothing.
-use mathlib.Core.Path.{◌≡◌, ap, ◌∙◌}
-use Prim.Native.Nat.{◌+◌, ◌-◌, ◌<◌, ◌≤◌, min}
-use native.Mathlib.Nat.{add-zero, sub-zero}
-use native.Mathlib.Omega.{arith}
-use Rattle.octets.specs.Octets.{octet_at, octets_from}
+use mathlib.Core.Path.{◌≡◌}
+use Prim.Native.Nat.{◌+◌, ◌-◌, ◌≤◌, min}
+use Rattle.octets.specs.Octets.{octets_from}
 use Rattle.octets.specs.Numbers.{number_from, number_of, largest}
-use Rattle.octets.proofs.Laws.Numbers.{number_done, number_next}
 use Rattle.octets.proofs.reading.number.Given as goal
 
 abbrev pub invariant-loop-k : goal.invariant-loop-k

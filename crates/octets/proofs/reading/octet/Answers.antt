@@ -1,6 +1,5 @@
 -- `octets::reading::octet` meets its contract: what stands past the end is 0. Assumes nothing.
 use native.Mathlib.Omega.{arith}
-use borrow.Author.Rules.{rules}
 use Rattle.octets.proofs.Laws.Octets.{past}
 use Rattle.octets.proofs.reading.octet.Goals as goal
 

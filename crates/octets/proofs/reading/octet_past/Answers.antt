@@ -1,7 +1,6 @@
 -- `octets::reading::octet_past` meets its contract: what stands past the end is 0. Assumes nothing.
 use Prim.Native.Nat.{◌+◌}
 use native.Mathlib.Omega.{arith}
-use borrow.Author.Rules.{rules}
 use Rattle.octets.proofs.Laws.Octets.{past}
 use Rattle.octets.proofs.reading.octet_past.Goals as goal
 

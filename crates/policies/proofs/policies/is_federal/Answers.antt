@@ -6,6 +6,6 @@ use Rattle.policies.proofs.policies.is_federal.Goals as goal
 
 pub returns : goal.returns
 unfolding oid subidentifiers subidentifier sevens
-returns c = 
+returns c =
     let a = c.args in
     policy_law a.s.now a.h c.first_in-policy.result c.minus.result c.equals-begins.result c.first_in-policy.ensures c.minus.ensures c.equals-begins.ensures

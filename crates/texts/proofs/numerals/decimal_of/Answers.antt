@@ -1,9 +1,5 @@
-use mathlib.Core.Path.{◌≡◌, sym, ◌∙◌}
-use Prim.Native.Nat.{◌-◌, ◌≤◌}
+use mathlib.Core.Path.{sym, ◌∙◌}
 use native.Mathlib.Omega.{arith}
-use lib.ListN.{length, drop}
-use borrow.Author.Rules.{rules}
-use Rattle.texts.specs.Numerals.{largest_number, decimal_from, decimal_of}
 use Rattle.texts.proofs.Laws.Numerals.{append_taken, decimal_empty, decimal_begins, decimal_next, decimal_stops, decimal_done}
 use Rattle.texts.proofs.numerals.decimal_of.Goals as goal
 
@@ -17,7 +13,7 @@ pub returns-in_default : goal.returns-in_default
 returns-in_default c = sym (c.loop-k.invariant.1 ∙ decimal_stops _ _ _ c.loop-k-test.true (sym c.append-next.ensures ∙ c.in_default.is))
 
 pub loop-k-preserved : goal.loop-k-preserved
-loop-k-preserved c = 
+loop-k-preserved c =
     let more = sym c.append-next.ensures ∙ c.in-Number.is in
     ((append_taken _ _ _ more).small, c.loop-k.invariant.1 ∙ decimal_next _ _ _ _ c.loop-k-test.true more)
 

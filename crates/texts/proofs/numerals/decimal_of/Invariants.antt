@@ -1,12 +1,9 @@
 -- `texts::numerals::decimal_of` meets its contract. The invariant: the text says the number so far, written on by the octets from the kth on.
 -- Assumes nothing.
-use mathlib.Core.Path.{◌≡◌, sym, ◌∙◌}
+use mathlib.Core.Path.{◌≡◌}
 use Prim.Native.Nat.{◌-◌, ◌≤◌}
-use native.Mathlib.Omega.{arith}
 use lib.ListN.{length, drop}
-use borrow.Author.Rules.{rules}
 use Rattle.texts.specs.Numerals.{largest_number, decimal_from, decimal_of}
-use Rattle.texts.proofs.Laws.Numerals.{append_taken, decimal_empty, decimal_begins, decimal_next, decimal_stops, decimal_done}
 use Rattle.texts.proofs.numerals.decimal_of.Given as goal
 
 abbrev pub invariant-loop-k : goal.invariant-loop-k

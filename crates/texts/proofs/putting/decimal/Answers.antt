@@ -1,5 +1,4 @@
 -- `texts::putting::decimal` meets its contract. Assumes nothing.
-use borrow.Author.Rules.{rules}
 use Rattle.texts.proofs.Laws.Digits.{digits_put}
 use Rattle.texts.proofs.putting.decimal.Goals as goal
 

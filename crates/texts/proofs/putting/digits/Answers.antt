@@ -1,7 +1,6 @@
 use mathlib.Core.Path.{sym, ◌∙◌}
 use native.Mathlib.Omega.{arith}
-use borrow.Author.Rules.{rules}
-use Rattle.texts.proofs.Laws.Digits.{Begun, begin, digit_on, digit_last, still_long}
+use Rattle.texts.proofs.Laws.Digits.{begin, digit_on, digit_last, still_long}
 use Rattle.texts.proofs.putting.digits.Goals as goal
 
 pub loop-rest-init : goal.loop-rest-init

@@ -1,5 +1,4 @@
 -- `texts::putting::field` meets its contract. Assumes nothing.
-use borrow.Author.Rules.{rules}
 use Rattle.texts.proofs.Laws.Putting.{◌⨾◌}
 use Rattle.texts.proofs.putting.field.Goals as goal
 

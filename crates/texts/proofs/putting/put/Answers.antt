@@ -1,5 +1,4 @@
 -- `texts::putting::put` meets its contract. Assumes nothing.
-use borrow.Author.Rules.{rules}
 use Rattle.texts.proofs.Laws.Putting.{put_in, put_out}
 use Rattle.texts.proofs.putting.put.Goals as goal
 

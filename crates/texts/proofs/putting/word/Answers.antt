@@ -1,9 +1,4 @@
-use mathlib.Core.Path.{◌≡◌, refl, ◌∙◌}
-use Prim.Native.Nat.{◌-◌}
-use native.Mathlib.Omega.{arith}
-use lib.ListN.{length, take}
-use borrow.Author.Rules.{rules}
-use Rattle.texts.specs.Putting.{Spelled}
+use mathlib.Core.Path.{refl, ◌∙◌}
 use Rattle.texts.proofs.Laws.Putting.{put_nothing, put_next, put_all}
 use Rattle.texts.proofs.putting.word.Goals as goal
 
@@ -11,7 +6,7 @@ pub loop-i-init : goal.loop-i-init
 loop-i-init c = (refl, put_nothing _ _)
 
 pub loop-i-preserved : goal.loop-i-preserved
-loop-i-preserved c = 
+loop-i-preserved c =
     let a = c.args in
     (c.put-m.auto.out ∙ c.loop-i.invariant.0, put_next a.text.now c.loop-i.i c.loop-i-test.true c.loop-i.invariant.1 c.put-m.ensures)
 

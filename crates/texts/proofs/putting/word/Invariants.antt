@@ -1,11 +1,8 @@
 -- `texts::putting::word` meets its contract. The invariant: so far the first i octets are put. Assumes nothing.
-use mathlib.Core.Path.{◌≡◌, refl, ◌∙◌}
+use mathlib.Core.Path.{◌≡◌}
 use Prim.Native.Nat.{◌-◌}
-use native.Mathlib.Omega.{arith}
 use lib.ListN.{length, take}
-use borrow.Author.Rules.{rules}
 use Rattle.texts.specs.Putting.{Spelled}
-use Rattle.texts.proofs.Laws.Putting.{put_nothing, put_next, put_all}
 use Rattle.texts.proofs.putting.word.Given as goal
 
 abbrev pub invariant-loop-i : goal.invariant-loop-i

@@ -11,11 +11,11 @@ unfolding before_month
 loop-m-init c = (refl, omega arith, omega arith)
 
 pub loop-m-preserved : goal.loop-m-preserved
-loop-m-preserved c = 
+loop-m-preserved c =
     let e = month_next c.args.leap c.loop-m.m in
     (cc e, omega arith, omega arith)
 
 pub returns : goal.returns
-returns c = 
+returns c =
     let e : c.loop-m.m ≡ c.args.month = omega arith in
     (c.loop-m.invariant.0 ∙ ap (before_month c.args.leap) e, omega arith)

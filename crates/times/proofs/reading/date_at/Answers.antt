@@ -10,7 +10,7 @@ use Rattle.times.proofs.reading.date_at.Goals as goal
 
 pub returns : goal.returns
 unfolding date_at
-returns c digits = 
+returns c digits =
     let x = c.args in
     let contents : List ℕ = octets_from x.s.now x.body x.n in
     let at = digit_at contents (x.k + 10) in

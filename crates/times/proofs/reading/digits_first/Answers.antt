@@ -14,7 +14,7 @@ pub loop-k-init : goal.loop-k-init
 loop-k-init c = rw sub-zero
 
 pub returns-then-not-is_digit : goal.returns-then-not-is_digit
-returns-then-not-is_digit c = 
+returns-then-not-is_digit c =
     let a = c.args in
     let contents = octets_from a.s.now a.body a.n in
     let e = digits_bad contents a.digits c.loop-k.k _ _ c.loop-k-test.true c.content.ensures
@@ -22,7 +22,7 @@ returns-then-not-is_digit c =
     sym (c.loop-k.invariant ∙ e)
 
 pub loop-k-preserved : goal.loop-k-preserved
-loop-k-preserved c = 
+loop-k-preserved c =
     let a = c.args in
     let contents = octets_from a.s.now a.body a.n in
     let e = digits_good contents a.digits c.loop-k.k _ _ c.loop-k-test.true c.content.ensures
@@ -30,6 +30,6 @@ loop-k-preserved c =
     c.loop-k.invariant ∙ e
 
 pub returns : goal.returns
-returns c = 
+returns c =
     let a = c.args in
     sym (c.loop-k.invariant ∙ digits_done (octets_from a.s.now a.body a.n) a.digits c.loop-k.k c.loop-k-test.false)

@@ -4,11 +4,11 @@ use Rattle.times.proofs.Laws.Reads.{real_law}
 use Rattle.times.proofs.reading.if_real.Goals as goal
 
 pub returns-then-written-date_ok : goal.returns-then-written-date_ok
-returns-then-written-date_ok c = 
+returns-then-written-date_ok c =
     let a = c.args in
     real_law a.written _ _ a.t true c.date_of.ensures c.date_ok.ensures c.if-written-date_ok.true
 
 pub returns : goal.returns
-returns c = 
+returns c =
     let a = c.args in
     real_law a.written _ _ a.t false c.date_of.ensures c.date_ok.ensures c.if-written-date_ok.false

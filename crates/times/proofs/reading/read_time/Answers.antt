@@ -9,7 +9,7 @@ use Rattle.times.proofs.reading.read_time.Goals as goal
 
 pub returns-in-23 : goal.returns-in-23
 unfolding time_of
-returns-in-23 c = 
+returns-in-23 c =
     let a = c.args in
     let contents = octets_from a.s.now a.body a.n in
     let same = written_law 12 contents (Utc c.utc_date.result) (Utc (utc_date contents)) (λ d. ap Utc (c.utc_date.ensures d)) in
@@ -17,7 +17,7 @@ returns-in-23 c =
 
 pub returns-in-24 : goal.returns-in-24
 unfolding time_of
-returns-in-24 c = 
+returns-in-24 c =
     let a = c.args in
     let contents = octets_from a.s.now a.body a.n in
     let same = written_law 14 contents (General c.general_date.result) (General (general_date contents))

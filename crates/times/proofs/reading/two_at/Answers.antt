@@ -6,6 +6,6 @@ use Rattle.times.proofs.Laws.Reads.{two_law}
 use Rattle.times.proofs.reading.two_at.Goals as goal
 
 pub returns : goal.returns
-returns c = 
+returns c =
     let a = c.args in
     (two_law (octets_from a.s.now a.body a.n) a.k _ _ c.content.ensures c.content-2.ensures, omega arith)

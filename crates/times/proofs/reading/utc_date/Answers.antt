@@ -9,7 +9,7 @@ use Rattle.times.proofs.Laws.Reads.{digit_at}
 use Rattle.times.proofs.reading.utc_date.Goals as goal
 
 pub returns : goal.returns
-returns c digits = 
+returns c digits =
     let a = c.args in
     let contents : List ℕ = octets_from a.s.now a.body a.n in
     let at = digit_at contents 12 in

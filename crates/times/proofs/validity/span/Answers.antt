@@ -5,6 +5,6 @@ use borrow.Author.Rules.{rules}
 use Rattle.times.proofs.validity.span.Goals as goal
 
 pub returns : goal.returns
-returns c = 
+returns c =
     c.minus.ensures
     ∙ ap₂ (λ (after before : ℕ). after + 1 - before) c.moment.ensures.0 c.moment-2.ensures.0

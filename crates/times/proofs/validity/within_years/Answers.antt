@@ -8,7 +8,7 @@ use Rattle.times.specs.declared.calendar.Date.{Date}
 use Rattle.times.proofs.validity.within_years.Goals as goal
 
 pub returns : goal.returns
-returns c = 
+returns c =
     let years : ℕ = c.args.years in
     ap₂ ltb c.moment.ensures.0
     (c.anniversary.ensures ∙ ap (λ (d : Date). seconds_of (anniversary_of years d)) c.date_of.ensures)

@@ -6,13 +6,13 @@ pub returns-then-n-lt2 : goal.returns-then-n-lt2
 returns-then-n-lt2 c = let a = c.args in other_none a.s.now a.body a.n a.allowed c.if-n-lt2.true
 
 pub returns-then-other_in_first : goal.returns-then-other_in_first
-returns-then-other_in_first c = 
+returns-then-other_in_first c =
     let a = c.args in
     other_first a.s.now a.body a.n c.octet_past.result a.allowed c.other_in_first.result c.if-n-lt2.false
     c.octet_past.ensures c.other_in_first.ensures c.if-other_in_first.true
 
 pub returns : goal.returns
-returns c = 
+returns c =
     let a = c.args in
     other_later a.s.now a.body a.n c.octet_past.result a.allowed c.other_in_first.result c.if-n-lt2.false
     c.octet_past.ensures c.other_in_first.ensures c.any_later.result c.if-other_in_first.false c.any_later.ensures

@@ -3,7 +3,7 @@ use Rattle.usages.proofs.Laws.Usage.{first_bits}
 use Rattle.usages.proofs.usage.other_in_first.Goals as goal
 
 pub returns : goal.returns
-returns c = 
+returns c =
     let a = c.args in
     rw (
       c.odd_alone.ensures,

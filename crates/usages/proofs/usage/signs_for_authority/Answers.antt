@@ -6,7 +6,7 @@ use Rattle.usages.proofs.Laws.Usage.{first_bit}
 use Rattle.usages.proofs.usage.signs_for_authority.Goals as goal
 
 pub returns : goal.returns
-returns c = 
+returns c =
     let a = c.args in
     rw (← c.minus-n.ensures)
     (ap₂ (λ (x y : Bool). x && y)

@@ -1,0 +1,2 @@
+-- Laws of the definitions, by file.
+pub mod Uuids
