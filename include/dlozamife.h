@@ -3,7 +3,7 @@
  * What is said here of answers and of the lent room is proved, for every certificate, issuer, profile, number and room
  * (crates/export); the few functions below that take an answer or a report apart are plain C.
  *
- *     rt staticlib export                  writes target/staticlib/libexport.a
+ *     tools/archive                        writes target/staticlib/libexport.a (crates/export_c)
  *     cc -I include program.c target/staticlib/libexport.a
  *
  * examples/c has a program that uses it. A program in Rust declares the two functions in an extern "C" block, with

@@ -14,8 +14,9 @@ HEAD = """# Contracts
 Made by `tools/contracts.py` from `crates/*/src` and, for the words, from `tools/contracts.md`; do not edit it by hand, but run
 `python3 tools/contracts.py --write`.
 
-What every public function of every crate ensures, bottom up. None has a `requires`. `now (s .entry)` is what the lent `s` holds when the
-function is called, `now (s .exit)` when it returns. The names in a contract are definitions of `specs/`, of the crate itself or of one below it;
+What every public function of every crate ensures, bottom up. None has a `requires`. `result` is what the function returns, and `s.now` is what the
+lent `s` holds; where `s` is lent to be changed, `s.old` is what it holds when the function is called, `s.new` when it returns. A clause may have a
+name, behind `ensures`. The other names in a contract are definitions of `specs/`, of the crate itself or of one below it;
 each name is defined in one crate only. Functions that are `pub` for the other files of their crate alone are listed too; only their contracts
 may name definitions of `specs/Workings`. "In words" says what contracts say together, which laws of `proofs/Laws` go with them, and which wrong
 answers the kept edits stand for ([EDITS.md](EDITS.md) has each of them as it is made). Files are given from the crate's folder on.

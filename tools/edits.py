@@ -15,26 +15,11 @@ What was tried once and is not kept stands in [TRIED.md](TRIED.md).
 """
 
 
-def parts_of(text):
-    """(words, file, old, new) of an edit. A line with no key goes on with the one above it."""
-    words, values, key = [], {}, None
-    for line in text.splitlines():
-        if line.startswith('#') and key is None:
-            words.append(line[1:].strip())
-            continue
-        start = next((k for k in ('file', 'old', 'new') if line.startswith(k + ':')), None)
-        if start is None:
-            values[key] += '\n' + line
-        else:
-            key, values[start] = start, line[len(start) + 1:].removeprefix(' ')
-    return ' '.join(words), values['file'], values['old'], values['new']
-
-
 def shown(name, text):
-    words, file, old, new = parts_of(text)
-    gone = [f'- {line}' for line in old.splitlines()]
-    come = [f'+ {line}' for line in new.splitlines()]
-    return '\n'.join([f'**`{name}`** in `{file}`: {words}.', '', '```diff', *gone, *come, '```', ''])
+    words, pairs = pages.edit(text)
+    files = ', '.join(f'`{file}`' for file in dict.fromkeys(file for file, _, _ in pairs))
+    changes = [line for _, old, new in pairs for line in (f'- {old}', f'+ {new}')]
+    return '\n'.join([f'**`{name}`** in {files}: {words}.', '', '```diff', *changes, '```', ''])
 
 
 def main():

@@ -98,7 +98,10 @@ assert len(TESTS) + max(field_row.values()) < 128 and len(ROWS) <= 256
 
 
 def const(name, xs):
-    return 'pub const %s: [u16; %d] = [\n' % (name, len(xs)) + ''.join('    0x%04X,\n' % x for x in xs) + '];\n'
+    """A constant in the layout of `rt fmt`: twelve numbers a line."""
+    cells = ['0x%04X,' % x for x in xs]
+    lines = ['    ' + ' '.join(cells[k:k + 12]) + '\n' for k in range(0, len(cells), 12)]
+    return 'pub const %s: [u16; %d] = [\n' % (name, len(xs)) + ''.join(lines) + '];\n'
 
 
 open(ROOT + '/src/table.rt', 'w').write('''// RFC 5280's types as tables of rows, written by tools/grammar_table.py. The proofs compare them with specs/Workings/Table.antt.
@@ -113,11 +116,11 @@ open(ROOT + '/src/table.rt', 'w').write('''// RFC 5280's types as tables of rows
 // extension that rule 340+s judges, for s from 1 to 11.
 ''' + const('ROOTS', ROOTS))
 
-NAMES = '''algorithmIdentifier attributeTypeAndValue relativeDistinguishedName name time validity subjectPublicKeyInfo extension
-extensions version tbsCertificate certificate otherName generalName generalNames authorityKeyIdentifier basicConstraints
-subjectKeyIdentifier keyUsage extKeyUsage policyQualifierInfo policyInformation certificatePolicies accessDescription
-authorityInfoAccess distributionPointName distributionPoint cRLDistributionPoints ocspNoCheck
-generalSubtree generalSubtrees nameConstraints'''.split()
+NAMES = '''algorithm_identifier attribute_type_and_value relative_distinguished_name name time validity subject_public_key_info extension
+extensions version tbs_certificate certificate other_name general_name general_names authority_key_identifier basic_constraints
+subject_key_identifier key_usage ext_key_usage policy_qualifier_info policy_information certificate_policies access_description
+authority_info_access distribution_point_name distribution_point crl_distribution_points ocsp_no_check general_subtree general_subtrees
+name_constraints'''.split()
 
 
 def antt(name, xs):
@@ -131,11 +134,11 @@ def antt(name, xs):
     return 'unfoldable pub %s : List ℕ\n%s =\n%s\n' % (name, name, '\n'.join(lines + [line + ' []']))
 
 
-def wrapped(names, start, gap, end, again):
-    """Names behind `start`, in lines of at most 140 characters; the next line starts with `again`."""
+def wrapped(names, start, gap, end, again, width):
+    """Names behind `start`, in lines of at most so many characters; the next line starts with `again`."""
     lines, line = [], start
     for name in names:
-        if len(line + name + end) > 140:
+        if len(line + name + end) > width:
             lines.append(line[:-len(gap)].rstrip() + end)
             line = again
         line += name + gap
@@ -143,37 +146,37 @@ def wrapped(names, start, gap, end, again):
 
 
 def using(module, names):
-    start = 'use Rattle·asn·specs.specs.%s.{' % module
-    return wrapped(names, start, ', ', '}', start)
+    start = 'use Rattle.asn.specs.%s.{' % module
+    return wrapped(names, start, ', ', '}', start, 140)
 
 
 def unfolding(names):
-    return wrapped(names, 'unfolding ', ' ', '', '    ')
+    return wrapped(names, 'unfolding ', ' ', '', '    ', 150)
 
 
 open(ROOT + '/proofs/Laws/Tables.antt', 'w').write('''-- The rows of src/table.rt say what specs/Workings/Table.antt has: antt reads the whole tables. Written by tools/grammar_table.py.
---     tables-right, roots-right      the rows of the types and of their fields; the rows where the judged types begin
+--     tables_right, roots_right      the rows of the types and of their fields; the rows where the judged types begin
 -- Assumes nothing.
-use mathlib.Core.Path.{_≡_, refl}
-use mathlib.Core.List.{List, [], _∷_, map}
+use mathlib.Core.Path.{◌≡◌, refl}
+use mathlib.Core.List.{List, [], ◌∷◌, map}
 use Prim.Native.Nat.{ℕ}
-use Rattle·asn·specs.specs.Grammar.{Form, Slots}
-''' + using('Module', ['judged'] + NAMES) + '''use Rattle·asn·specs.specs.Workings.Table.{Tables, types, alone, allForms, slotRows, formOf, fieldsOf, rowsSay, formAt, slotsAt}
+use Rattle.asn.specs.Grammar.{Form, Slots}
+''' + using('Module', ['judged'] + NAMES) + '''use Rattle.asn.specs.Workings.Table.{Tables, types, alone, all_forms, slot_rows, form_of, fields_of, rows_say, form_at, slots_at}
 
 ''' + antt('rows', ROWS) + '\n' + antt('slots', FIELDS) + '\n' + antt('roots', ROOTS) + '''
-forms-right : rowsSay formOf Form.none rows ≡ allForms types
-''' + unfolding('rows types judged slotsAt slotRows'.split() + NAMES) + '''forms-right = refl
+forms_right : rows_say form_of Form.none rows ≡ all_forms types
+''' + unfolding('rows types judged slots_at slot_rows'.split() + NAMES) + '''forms_right = refl
 
-fields-right : rowsSay fieldsOf Slots.done slots ≡ slotRows
-''' + unfolding('slots slotRows types judged formAt'.split() + NAMES) + '''fields-right = refl
+fields_right : rows_say fields_of Slots.done slots ≡ slot_rows
+''' + unfolding('slots slot_rows types judged form_at'.split() + NAMES) + '''fields_right = refl
 
-pub tables-right : Tables rows slots
-tables-right = record { forms = forms-right; fields = fields-right }
+pub tables_right : Tables rows slots
+tables_right = record { forms = forms_right; fields = fields_right }
 
-pub roots-right : map slotsAt roots ≡ map alone judged
-''' + unfolding('roots slotsAt slotRows types judged'.split() + NAMES) + '''roots-right = refl
+pub roots_right : map slots_at roots ≡ map alone judged
+''' + unfolding('roots slots_at slot_rows types judged'.split() + NAMES) + '''roots_right = refl
 
-pub none-right : slotsAt 0 ≡ alone Form.none
-unfolding slotsAt slotRows types
-none-right = refl
+pub none_right : slots_at 0 ≡ alone Form.none
+unfolding slots_at slot_rows types
+none_right = refl
 ''')

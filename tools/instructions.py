@@ -2,26 +2,22 @@
 """Counts the instructions that a record costs in a listing: `decklint` (proved) against `list_deck` (reference).
 
     tools/instructions.py                            the table of docs/BENCHMARKS.md, "A record in the listing"
-    tools/instructions.py --reference PROGRAM        the same with this x86-64 build of list_deck
+    tools/instructions.py --reference PROGRAM        the same with this build of list_deck
     tools/instructions.py --functions ROW [PROGRAM]  where they go, by function, in a row of the table (1 to 9)
 
 A deck has one record of samples/night.deck over and over; a record's count is (10 records less 5) / 5, so that the
-start and the end of the process drop out. On x86-64, valgrind's callgrind counts. Elsewhere the kit's emulator logs
-each instruction of an x86-64 program, and callgrind counts a list_deck that was built for the machine itself.
+start and the end of the process drop out. Valgrind's callgrind counts, on an x86-64 machine, for which the programs are made.
 """
 
 import collections
-import os
-import platform
 import re
-import shutil
 import subprocess
 import sys
 import tempfile
 from pathlib import Path
 
 ROOT = Path(__file__).resolve().parent.parent
-DECKLINT = ROOT / "target/bin/decklint"
+DECKLINT = ROOT / "crates/decklint/out/decklint"
 LIST_DECK = ROOT / "target/cargo/release/list_deck"
 BLOCK = 512
 
@@ -39,13 +35,6 @@ ROWS = [
 ]
 
 
-def kit():
-    """The kit's tools for this machine, as bin/run-program finds them."""
-    command = shutil.which("rt") or sys.exit("there is no command rt on PATH")
-    home = os.environ.get("RATTLE_HOME") or Path(os.path.realpath(command)).parent.parent
-    return Path(home) / "on" / platform.machine() / "toolchain"
-
-
 def record_of(number, spoiled):
     """The blocks of a record of the sample: octets 0 to 3 of a block are its number."""
     deck = (ROOT / "samples/night.deck").read_bytes()
@@ -56,69 +45,53 @@ def record_of(number, spoiled):
     return b"".join(mine)
 
 
-def is_x86(program):
-    """The machine that an ELF file is for stands in its octets 18 and 19; 62 is x86-64."""
+def counted(program, deck):
+    """How many instructions were run, by function and in all, as callgrind says it."""
     if not program.is_file():
         sys.exit(f"there is no {program}: build it first (docs/BENCHMARKS.md says how)")
-    return program.read_bytes()[18:20] == bytes([62, 0])
-
-
-def run(command, deck):
-    done = subprocess.run(command, input=deck, capture_output=True, check=False)
-    if done.returncode != 0:
-        sys.exit(f"{command} ended with {done.returncode}: {done.stderr[-400:].decode(errors='replace')}")
-    return done.stderr.decode(errors="replace")
-
-
-def by_callgrind(program, deck):
-    loaded = [kit() / "lib/ld-linux-x86-64.so.2", "--library-path", kit() / "lib"] if program == DECKLINT else []
-    said = run(["valgrind", "--tool=callgrind", "--callgrind-out-file=/dev/null", *loaded, program], deck)
-    return int(re.search(r"Collected : (\d+)", said).group(1))
-
-
-def logged(program, deck):
-    """The emulator's log, a line an instruction. It names functions where it loads the program itself."""
-    emulator = kit() / "bin/qemu-x86_64"
-    if not emulator.is_file():
-        sys.exit("the kit has no emulator for this machine; callgrind_annotate shows where instructions go")
     with tempfile.TemporaryDirectory() as folder:
-        os.symlink(kit() / "lib", Path(folder) / "lib64")
-        libraries = ["-L", folder, "-E", f"LD_LIBRARY_PATH={kit() / 'lib'}"]
-        said = run([emulator, *libraries, "-one-insn-per-tb", "-d", "exec,nochain", program], deck)
-    return [line for line in said.splitlines() if line.startswith("Trace")]
+        out = Path(folder) / "counted"
+        command = ["valgrind", "--tool=callgrind", f"--callgrind-out-file={out}", program]
+        done = subprocess.run(command, input=deck, capture_output=True, check=False)
+        if done.returncode != 0:
+            sys.exit(f"{command} ended with {done.returncode}: {done.stderr[-400:].decode(errors='replace')}")
+        lines = out.read_text(errors="replace").splitlines()
+    total = next(int(line.split()[1]) for line in lines if line.startswith(("totals:", "summary:")))
+    return by_function(lines), total
 
 
-def count(program, deck):
-    emulated = is_x86(program) and platform.machine() != "x86_64"
-    return len(logged(program, deck)) if emulated else by_callgrind(program, deck)
+def by_function(lines):
+    """What each function itself ran. `fn=(3) name` names a function the first time, `fn=(3)` later; the line behind
+    `calls=` is what was called, and no part of the caller."""
+    met, names, current, is_called = collections.Counter(), {}, None, False
+    for line in lines:
+        named = re.match(r"(c?)fn=(\(\d+\))(?: (.*))?", line)
+        if named:
+            names.setdefault(named[2], named[3])
+            current = current if named[1] else names[named[2]]
+        elif line.startswith("calls="):
+            is_called = True
+        elif re.match(r"[+\-*\d]\S* \d+$", line):
+            if not is_called:
+                met[current] += int(line.split()[1])
+            is_called = False
+    return met
 
 
 def a_record(program, record):
-    return (count(program, record * 10) - count(program, record * 5)) / 5
+    return (counted(program, record * 10)[1] - counted(program, record * 5)[1]) / 5
 
 
 def print_table(reference):
-    machine = "x86-64" if is_x86(reference) else platform.machine()
-    print(f"| Record | `decklint` | `list_deck` ({machine}) | ratio |\n|---|---|---|---|")
+    print("| Record | `decklint` | `list_deck` | ratio |\n|---|---|---|---|")
     for what, number, spoiled in ROWS:
         record = record_of(number, spoiled)
         proved, other = (a_record(program, record) for program in (DECKLINT, reference))
         print(f"| {what} | {proved:,.0f} | {other:,.0f} | {proved / other:.2f} |", flush=True)
 
 
-def functions(program, deck):
-    """How often each function's instructions were run. A repeated string instruction is a function of its own."""
-    met, before = collections.Counter(), None
-    for line in logged(program, deck):
-        place, _, name = line.partition("] ")
-        address = place.split("/")[1]
-        met[(name or "libraries") + (", repeats of an instruction" if address == before else "")] += 1
-        before = address
-    return met
-
-
 def print_functions(program, record):
-    ten, five = functions(program, record * 10), functions(program, record * 5)
+    ten, five = counted(program, record * 10)[0], counted(program, record * 5)[0]
     ten.subtract(five)
     print("| Function | instructions a record |\n|---|---|")
     for name, met in ten.most_common():

@@ -18,9 +18,27 @@ def files_in(*folder, extension):
 
 
 def crates():
-    """(name, the crates that it rests on) of each line of crates.txt, bottom up."""
+    """(name, the crates that it rests on) of each line of crates.txt, bottom up. Behind the name may stand `staticlib`."""
     lines = [line for line in read('crates.txt').splitlines() if line and not line.startswith('#')]
-    return [(name.strip(), used.split()) for name, used in (line.split(':', 1) for line in lines)]
+    return [(name.split()[0], used.split()) for name, used in (line.split(':', 1) for line in lines)]
+
+
+def edit(text):
+    """(words, [(file, old, new), ..]) of a must-fail edit: lines that begin with `#`, `file: `, `old: ` and `new: `; a file stands for all pairs behind it."""
+    words, pairs, file, old = [], [], None, None
+    for line in text.splitlines():
+        key, _, value = line.partition(' ')
+        if key == 'file:':
+            file = value.strip()
+        elif key == 'old:':
+            old = value
+        elif key == 'new:':
+            pairs.append((file, old, value))
+        elif line.startswith('#'):
+            words.append(line[1:].strip())
+        elif line.strip():
+            raise ValueError(f'a line of an edit that nothing reads: {line}')
+    return ' '.join(words), pairs
 
 
 def comment_lines(lines):

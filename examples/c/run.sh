@@ -2,22 +2,11 @@
 # Proves the library, writes its archive, compiles lint_file.c over it and runs it: with arguments, on those; with none, on
 # the server certificate that deckpack is tried with, whose findings must be those of the file `expected`.
 #
-# Needs the kit (rt) and a C compiler for x86-64 Linux with its C library: CC names it, else it is cc. On a machine of another
-# kind it is x86_64-linux-gnu-gcc (Debian: gcc-x86-64-linux-gnu), and the kit's emulator runs the program.
+# Needs the kit (rt) and a C compiler for x86-64 Linux with its C library: CC names it, else it is cc.
 set -eu
 here=$(pwd)
 cd "$(dirname "$0")/../.."
-machine=$(uname -m)
-if [ "$machine" = x86_64 ]; then
-    compiler=${CC:-cc}
-    flags=
-    emulator=
-else
-    compiler=${CC:-x86_64-linux-gnu-gcc}
-    flags=-static # so that the emulator needs no libraries
-    kit=${RATTLE_HOME:-$(dirname "$(dirname "$(readlink -f "$(command -v rt)")")")}
-    emulator=$kit/on/$machine/toolchain/bin/qemu-x86_64
-fi
+compiler=${CC:-cc}
 case $($compiler -dumpmachine) in
     x86_64*) ;;
     *)
@@ -25,13 +14,13 @@ case $($compiler -dumpmachine) in
         exit 2
         ;;
 esac
-rt staticlib export
+tools/archive
 mkdir -p target/c
-$compiler -std=c99 -pedantic -Wall -Wextra -Werror -O2 $flags -I include examples/c/lint_file.c target/staticlib/libexport.a \
+$compiler -std=c99 -pedantic -Wall -Wextra -Werror -O2 -I include examples/c/lint_file.c target/staticlib/libexport.a \
     -o target/c/lint_file
 program=$(pwd)/target/c/lint_file
 lint_file() {
-    ${emulator:+"$emulator"} "$program" "$@"
+    "$program" "$@"
 }
 if [ $# -gt 0 ]; then
     cd "$here"

@@ -1,8 +1,7 @@
 //! Running a program of this repository as a process.
 //!
-//! The programs are made for x86-64 and are run as the toolchain's command `rt` runs them: by the
-//! loader of its kit with the libraries of its kit, and on another processor by the emulator that
-//! the kit has beside its compiler.
+//! The programs are made for x86-64. Each stands in the folder `out` of its crate, where the
+//! toolchain's command `rt` leaves it: `rt ci` as it was proved from nothing, `rt run` after an edit.
 
 use std::env;
 use std::io::{Read, Write};
@@ -12,11 +11,10 @@ use std::sync::mpsc::{channel, Receiver};
 use std::thread;
 use std::time::Duration;
 
-/// A program that was found, and the command that starts it.
+/// A program that was found.
 pub struct Program {
     name: String,
     binary: PathBuf,
-    tools: PathBuf,
 }
 
 /// Whether the programs are to be left out, which the environment must say outright.
@@ -37,7 +35,7 @@ impl Program {
 
     /// The program of this name, or why it cannot be run.
     pub fn find(name: &str) -> Result<Program, String> {
-        let binary = folder_of_programs().join(name);
+        let binary = path_of(name);
         if !binary.is_file() {
             return Err(format!(
                 "there is no program {}: build it first, name the folder it is in with DLO_BIN, \
@@ -45,36 +43,7 @@ impl Program {
                 binary.display()
             ));
         }
-        let tools = kit()?.join("on").join(machine()?).join("toolchain");
-        let program = Program { name: name.to_string(), binary, tools };
-        if program.loader().is_file() {
-            Ok(program)
-        } else {
-            Err(format!("the kit has no loader at {}", program.loader().display()))
-        }
-    }
-
-    fn loader(&self) -> PathBuf {
-        self.tools.join("lib").join("ld-linux-x86-64.so.2")
-    }
-
-    fn command(&self) -> Command {
-        let emulator = self.tools.join("bin").join("qemu-x86_64");
-        let mut command = if emulator.is_file() {
-            let mut command = Command::new(emulator);
-            command.arg(self.loader());
-            command
-        } else {
-            Command::new(self.loader())
-        };
-        command.arg("--library-path").arg(self.tools.join("lib")).arg(&self.binary);
-        // Variables of the emulator could change what the program does.
-        for (name, _) in env::vars_os() {
-            if name.to_string_lossy().starts_with("QEMU_") {
-                command.env_remove(name);
-            }
-        }
-        command
+        Ok(Program { name: name.to_string(), binary })
     }
 
     /// Runs the program with this on its standard input, and gives what it wrote to its standard
@@ -85,7 +54,7 @@ impl Program {
 
     /// The same, and what it said on its standard error.
     pub fn run_and_hear(&self, arguments: &[&str], input: &[u8]) -> (Vec<u8>, String) {
-        let mut command = self.command();
+        let mut command = Command::new(&self.binary);
         command.args(arguments).stdin(Stdio::piped()).stdout(Stdio::piped()).stderr(Stdio::piped());
         let mut process =
             command.spawn().unwrap_or_else(|error| panic!("{} does not start: {error}", self.name));
@@ -111,7 +80,7 @@ impl Program {
     }
 }
 
-/// Every call ends, so a run that takes this long is a failure. An emulator is slow.
+/// Every call ends, so a run that takes this long is a failure.
 const LONGEST_RUN: Duration = Duration::from_secs(300);
 
 /// Reads a pipe to its end beside everything else.
@@ -126,11 +95,11 @@ fn reading(mut pipe: impl Read + Send + 'static) -> Receiver<Vec<u8>> {
     receiver
 }
 
-/// Where the programs are: what `DLO_BIN` names, or `target/bin` of the repository.
-fn folder_of_programs() -> PathBuf {
+/// Where the program of this name is: in the folder that `DLO_BIN` names, or in `out` of its crate.
+pub fn path_of(name: &str) -> PathBuf {
     match env::var_os("DLO_BIN") {
-        Some(folder) => PathBuf::from(folder),
-        None => repository().join("target").join("bin"),
+        Some(folder) => PathBuf::from(folder).join(name),
+        None => repository().join("crates").join(name).join("out").join(name),
     }
 }
 
@@ -138,25 +107,4 @@ fn folder_of_programs() -> PathBuf {
 fn repository() -> PathBuf {
     let package = Path::new(env!("CARGO_MANIFEST_DIR"));
     package.parent().expect("the package stands in a repository").to_path_buf()
-}
-
-/// The folder of the toolchain's kit: what `RATTLE_HOME` names, or the one above the folder of the
-/// command `rt`.
-pub fn kit() -> Result<PathBuf, String> {
-    if let Some(home) = env::var_os("RATTLE_HOME") {
-        return Ok(PathBuf::from(home));
-    }
-    let path = env::var_os("PATH").unwrap_or_default();
-    let command = env::split_paths(&path).map(|folder| folder.join("rt")).find(|command| command.is_file());
-    let command = command.ok_or("there is no command rt on PATH, and RATTLE_HOME names no kit")?;
-    let real = command.canonicalize().map_err(|error| format!("rt cannot be resolved: {error}"))?;
-    let folder = real.parent().and_then(Path::parent);
-    Ok(folder.ok_or("rt stands in no kit")?.to_path_buf())
-}
-
-/// The name of this kind of machine, as `uname -m` says it.
-fn machine() -> Result<String, String> {
-    let output =
-        Command::new("uname").arg("-m").output().map_err(|error| format!("uname does not run: {error}"))?;
-    Ok(String::from_utf8_lossy(&output.stdout).trim().to_string())
 }

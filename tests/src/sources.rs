@@ -29,7 +29,7 @@ pub fn crate_name(folder: &Path) -> String {
     folder.file_name().expect("a crate has a name").to_string_lossy().into_owned()
 }
 
-/// The files below a folder with this extension, sorted; none where the folder is not there.
+/// The files below a folder with this extension, sorted, without what is built; none where the folder is not there.
 pub fn files_below(folder: &Path, extension: &str) -> Vec<PathBuf> {
     let mut found = Vec::new();
     if folder.is_dir() {
@@ -43,7 +43,9 @@ fn collect(folder: &Path, extension: &str, found: &mut Vec<PathBuf>) {
     for entry in fs::read_dir(folder).unwrap_or_else(|e| panic!("{}: {e}", folder.display())) {
         let path = entry.expect("a folder's entry").path();
         if path.is_dir() {
-            collect(&path, extension, found);
+            if !path.ends_with("out") {
+                collect(&path, extension, found);
+            }
         } else if path.extension().is_some_and(|e| e == extension) {
             found.push(path);
         }
@@ -148,9 +150,8 @@ pub fn head_of(text: &str) -> &str {
     while let Some(open) = text[end..].find('{') {
         let before = &text[end..end + open];
         let mut words = before.split_whitespace().rev();
-        let last = words.next().unwrap_or("");
-        let opens_clause = ["requires", "ensures"].contains(&last)
-            || words.next().is_some_and(|word| ["requires", "ensures"].contains(&word));
+        let opens = |word: &str| ["requires", "ensures"].contains(&word.trim_end_matches('*'));
+        let opens_clause = words.next().is_some_and(opens) || words.next().is_some_and(opens);
         if !opens_clause {
             return &text[..end + open];
         }

@@ -29,16 +29,16 @@ fn words(text: &str) -> BTreeSet<&str> {
         .collect()
 }
 
-/// The word by which a text uses a name: `and` for `_and_`, `for` for `_for_⦂_`.
+/// The word by which a text uses a name: `and` for `◌and◌`, `for` for `◌for◌⦂◌`.
 fn word_of(name: &str) -> &str {
-    name.split('_').find(|part| !part.is_empty()).unwrap_or(name)
+    name.split('◌').find(|part| !part.is_empty()).unwrap_or(name)
 }
 
-/// The crate and the module of a path into some crate's `specs`, save the types that its code declares.
+/// The crate and the module of a path into some crate's `specs`, save the types that its code declares and what is of
+/// the library.
 fn specs_path(path: &str) -> Option<(&str, &str)> {
-    let (crate_part, module) = path.strip_prefix("Rattle·")?.split_once(".specs.")?;
-    let owner = crate_part.strip_suffix("·specs").unwrap_or(crate_part);
-    Some((owner, module)).filter(|_| !module.starts_with("declared."))
+    let (owner, module) = path.strip_prefix("Rattle.")?.split_once(".specs.")?;
+    Some((owner, module)).filter(|_| owner != "std" && !module.starts_with("declared."))
 }
 
 /// All definitions of all crates' specifications, and what each of them names.
@@ -159,8 +159,14 @@ fn is_offered(crate_folder: &Path, function: &Function) -> bool {
     if !function.is_public || !root.is_file() || function.file == root || function.is_method {
         return function.is_public;
     }
-    let handed_on = format!("::{};", function.name);
-    text_of(&root).lines().any(|line| line.starts_with("pub use ") && line.ends_with(&handed_on))
+    handed_on(&text_of(&root)).contains(&function.name.as_str())
+}
+
+/// The names that a source hands on: `pub use a::b;` and `pub use a::{b, c};`, which may go on over lines.
+fn handed_on(text: &str) -> Vec<&str> {
+    let items = text.split("\npub use ").skip(1).filter_map(|rest| rest.split(';').next());
+    let names = items.filter_map(|item| item.split_once("::")).flat_map(|(_, names)| names.split(','));
+    names.map(|name| name.trim_matches(|c: char| c.is_whitespace() || "{}".contains(c))).collect()
 }
 
 /// The contracts of one crate's functions: whether another crate can call the function, its name, what its contract
@@ -268,28 +274,32 @@ fn what_a_definition_names_is_told() {
     let file =
         |owner: &str, module: &str, text: &str| (owner.to_string(), module.to_string(), text.to_string());
     let definitions = Definitions::of(&[
-        file("a", "One", "pub data Kind : Type 0 where\n  made : Kind\n\npub _and_ : ℕ\n_and_ a b = a\n"),
+        file("a", "One", "pub data Kind : Type 0 where\n  made : Kind\n\npub ◌and◌ : ℕ\n◌and◌ a b = a\n"),
         file(
             "a",
             "Workings.Two",
-            "use Rattle·a·specs.specs.One.{_and_ as both}\npub way : ℕ\nway = 1 both 2 -- other\n",
+            "use Rattle.std.specs.Prelude.{ℕ}\nuse Rattle.a.specs.One.{◌and◌ as ◌both◌}\npub way : ℕ\nway = 1 both 2 -- other\n",
         ),
         file(
             "b",
             "Three",
-            "use Rattle·a.specs.Workings.Two.{way}\nuse Rattle·a.specs.One.Kind.{made}\n\
-            pub other : ℕ\nother = x .way\n\npub last : ℕ\nlast = f made (way)\n",
+            "use Rattle.a.specs.Workings.Two.{way}\nuse Rattle.a.specs.One.Kind.{made}\n\
+            pub other : ℕ\nother = x.way + (f x).way\n\npub last : ℕ\nlast = f made (way)\n",
         ),
     ]);
     let key =
         |owner: &str, module: &str, name: &str| (owner.to_string(), module.to_string(), name.to_string());
     let names = |k: &Key| definitions.names[k].iter().map(|key| key.2.as_str()).collect::<Vec<_>>();
-    assert_eq!(names(&key("a", "Workings.Two", "way")), ["_and_", "way"]);
+    assert_eq!(names(&key("a", "Workings.Two", "way")), ["◌and◌", "way"]);
     assert_eq!(names(&key("b", "Three", "other")), ["other"]);
     assert_eq!(names(&key("b", "Three", "last")), ["Kind", "way", "last"]);
     assert!(is_working(&key("a", "Workings.Two", "way")) && !is_working(&key("b", "Three", "last")));
     let reached = definitions.reached(BTreeSet::from([key("b", "Three", "last")]));
     assert_eq!(reached.len(), 4, "{reached:?}");
+    assert_eq!(
+        handed_on("mod a;\npub use a::b;\npub use c::{d,\n    e,\n};\nuse f::g;\n"),
+        ["b", "d", "e", ""]
+    );
     let page = "`other` (`crates/b/specs/Three.antt`), `way` of nowhere";
     assert_eq!(stated(&definitions, page), BTreeSet::from([key("b", "Three", "other")]));
 }

@@ -1,5 +1,5 @@
-//! The header for C declares exactly the functions that the crate `export` exports, with their parameters. No
-//! compiler sees both: the archive is linked by name. Its constants and what it reads of a report are the papers', and the
+//! The header for C declares exactly the functions that the crate `export_c` exports, with their parameters, and each is
+//! that of the crate `export` by its name. No compiler sees both: the archive is linked by name. Its constants and what it reads of a report are the papers', and the
 //! example in C expects what the reference finds.
 
 use std::fs;
@@ -9,6 +9,7 @@ use comparison::deck::{answer_lines, BLOCK};
 use comparison::entries::{entry, level_number, octets_of, ENTRY};
 use comparison::holding::AMPLE_ROOM;
 use comparison::records::LONGEST_SIDE;
+use comparison::sources::functions_of;
 use reference::{lint, Entry, Level};
 
 fn path_of(name: &str) -> PathBuf {
@@ -54,7 +55,7 @@ fn parameter(text: &str) -> String {
 /// What C has to declare, of the functions marked for export.
 fn due_declarations(source: &str) -> Vec<String> {
     let mut declarations = Vec::new();
-    for part in source.split("#[no_mangle]").skip(1) {
+    for part in source.split("#[unsafe(no_mangle)]").skip(1) {
         let head = on_one_line(part.split("ensures").next().expect("a part has a beginning"));
         let head = head.strip_prefix("pub extern \"C\" fn ").expect("an exported function");
         let (name, rest) = head.split_once('(').expect("a function has parameters");
@@ -162,14 +163,34 @@ fn places_and_numbers_are_read_from_a_header() {
 
 #[test]
 fn the_header_declares_what_is_exported() {
-    let due = due_declarations(&text_of("crates/export/src/lib.rt"));
+    let due = due_declarations(&text_of("crates/export_c/src/lib.rt"));
     assert_eq!(due.len(), 2, "{due:#?}");
     assert_eq!(declarations_in(&text_of("include/dlozamife.h")), due);
 }
 
 #[test]
+fn each_export_is_the_function_of_the_library() {
+    let public = |name: &str| {
+        let functions = functions_of(&path_of(&format!("crates/{name}/src/lib.rt")));
+        let heads = functions.into_iter().filter(|f| f.is_public).map(|f| on_one_line(&f.head));
+        heads.collect::<Vec<String>>()
+    };
+    let exports = public("export_c");
+    assert_eq!(exports.len(), 2, "{exports:#?}");
+    assert_eq!(exports, public("export"), "the same heads, and so the same clauses");
+    let source = on_one_line(&text_of("crates/export_c/src/lib.rt"));
+    for head in exports {
+        let (name, rest) = head["fn ".len()..].split_once('(').expect("a function has parameters");
+        let (parameters, _) = rest.split_once(')').expect("they end");
+        let names: Vec<&str> = parameters.split(", ").filter_map(|p| p.split(':').next()).collect();
+        let call = format!("{{ export::{name}({}) }}", names.join(", "));
+        assert!(source.contains(&call), "{call}");
+    }
+}
+
+#[test]
 fn a_declaration_is_made_of_a_function() {
-    let source = "#[no_mangle]\npub extern \"C\" fn f(\n    a: &[u8],\n    n: u32,\n    b: &mut [u8],\n) -> u64\n    ensures { x }\n{ 0 }";
+    let source = "#[unsafe(no_mangle)]\npub extern \"C\" fn f(\n    a: &[u8],\n    n: u32,\n    b: &mut [u8],\n) -> u64\n    ensures { x }\n{ 0 }";
     let due = "uint64_t f(const uint8_t *a, size_t a_length, uint32_t n, uint8_t *b, size_t b_length);";
     assert_eq!(due_declarations(source), [due]);
 }

@@ -48,7 +48,7 @@ fn check_owners(what: &str, owners: &Owners, there: [&str; 2]) {
 
 #[test]
 fn no_definition_is_named_as_one_of_another_crate() {
-    check_owners("definitions", &owners("specs", "antt", definitions_in), ["derSoundness", "Tree"]);
+    check_owners("definitions", &owners("specs", "antt", definitions_in), ["der_soundness", "Tree"]);
 }
 
 #[test]

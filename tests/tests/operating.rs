@@ -4,16 +4,12 @@
 use std::env;
 use std::fs;
 use std::io::Write;
-use std::os::unix::fs::symlink;
 use std::path::PathBuf;
 use std::process::{Command, Stdio};
 use std::time::{Duration, SystemTime};
 
 use comparison::commands::{command, folder, full_disk, open, outcome, repository, SAID};
-use comparison::program::{kit, Program};
-
-/// Signal 13, a write to a pipe that nobody reads.
-const BROKEN_PIPE: Option<i32> = Some(128 + 13);
+use comparison::program::{path_of, Program};
 
 fn sample(name: &str) -> PathBuf {
     repository().join("samples").join(name)
@@ -51,7 +47,9 @@ fn a_listing_that_nobody_reads_does_not() {
     drop(running.stdout.take());
     let deck = fs::read(sample("night.deck")).expect("the sample");
     running.stdin.take().expect("a pipe").write_all(&deck).expect("the deck is read");
-    assert_eq!(running.wait().expect("it ends").code(), BROKEN_PIPE);
+    let ended = running.wait_with_output().expect("it ends");
+    assert_eq!(ended.status.code(), SAID);
+    assert_eq!(String::from_utf8_lossy(&ended.stderr), "decklint: standard output: Broken pipe\n");
 }
 
 #[test]
@@ -84,7 +82,12 @@ fn an_argument_of_decklint_gets_the_usage_line_and_nothing_is_read() {
     }
 }
 
-/// A repository with a program, one source, and a `rt` that notes what it is asked and ends with this status.
+/// Where the program of the scratch repository stands.
+const PROGRAM_FOLDER: &str = "crates/decklint/out";
+const PROGRAM: &str = "crates/decklint/out/decklint";
+
+/// A repository with a program, one source, and a `rt` that notes in which folder it is asked what, makes the program if
+/// its status is to be 0, and ends with this status.
 struct Scratch {
     root: PathBuf,
 }
@@ -92,18 +95,22 @@ struct Scratch {
 impl Scratch {
     fn with_status(name: &str, status: i32) -> Scratch {
         let root = folder(name);
-        for inner in ["bin", "tools", "target/bin", "crates/one/src", "crates/one/specs", "crates/one/proofs"]
+        for inner in
+            ["bin", "tools", PROGRAM_FOLDER, "crates/one/src", "crates/one/specs", "crates/one/proofs"]
         {
             fs::create_dir_all(root.join(inner)).expect("a folder is made");
         }
-        fs::copy(repository().join("bin/run-program"), root.join("bin/run-program"))
+        fs::copy(repository().join("bin/run-program"), root.join("bin/decklint"))
             .expect("the script is there");
-        symlink("run-program", root.join("bin/decklint")).expect("a link is made");
-        fs::copy(repository().join("target/bin/decklint"), root.join("target/bin/decklint"))
-            .expect("the program is there");
+        let (made, program) = (root.join("tools/made"), root.join(PROGRAM));
+        for copy in [&made, &program] {
+            fs::copy(path_of("decklint"), copy).expect("the program is there");
+        }
         fs::write(root.join("crates.txt"), "one:\n").expect("a file is written");
         fs::write(root.join("crates/one/src/lib.rt"), "").expect("a file is written");
-        let script = format!("#!/bin/sh\necho \"$@\" >> '{}'\nexit {status}\n", root.join("asked").display());
+        let note = format!("echo \"$(basename \"$PWD\"): $*\" >> '{}'", root.join("asked").display());
+        let build = format!("[ {status} -ne 0 ] || cp '{}' '{}'", made.display(), program.display());
+        let script = format!("#!/bin/sh\n{note}\n{build}\nexit {status}\n");
         fs::write(root.join("tools/rt"), script).expect("a file is written");
         Command::new("chmod").arg("+x").arg(root.join("tools/rt")).status().expect("chmod runs");
         let scratch = Scratch { root };
@@ -124,19 +131,22 @@ impl Scratch {
     /// The status of `bin/decklint` on a deck of no blocks, and what it prints.
     fn list(&self) -> (Option<i32>, String) {
         let path = format!("{}:{}", self.root.join("tools").display(), env::var("PATH").unwrap_or_default());
-        let home = kit().expect("there is a kit");
-        let ended = outcome(
-            Command::new(self.root.join("bin/decklint"))
-                .env("PATH", path)
-                .env("RATTLE_HOME", home)
-                .stdin(Stdio::null()),
-        );
+        let ended =
+            outcome(Command::new(self.root.join("bin/decklint")).env("PATH", path).stdin(Stdio::null()));
         (ended.status.code(), String::from_utf8_lossy(&ended.stdout).into_owned())
     }
 
     /// What `rt` was asked, a line each.
     fn asked(&self) -> String {
         fs::read_to_string(self.root.join("asked")).unwrap_or_default()
+    }
+}
+
+#[test]
+fn each_command_is_a_copy_of_the_script() {
+    let text = |name: &str| fs::read(repository().join("bin").join(name)).expect("a script of bin");
+    for name in ["decklint", "deckget", "deckpack"] {
+        assert!(text(name) == text("run-program"), "bin/{name} is no copy: cp bin/run-program bin/{name}");
     }
 }
 
@@ -149,12 +159,12 @@ fn a_program_older_than_a_source_is_built_again_once() {
     let scratch = Scratch::with_status("stale", 0);
     assert_eq!(scratch.list(), (Some(0), empty.clone()));
     assert_eq!(scratch.asked(), "", "a program newer than its sources is run as it is");
-    scratch.age("target/bin/decklint", 200);
+    scratch.age(PROGRAM, 200);
     scratch.age("crates/one/src/lib.rt", 100);
     assert_eq!(scratch.list(), (Some(0), empty.clone()));
-    assert_eq!(scratch.asked(), "check decklint\n");
+    assert_eq!(scratch.asked(), "decklint: run\n");
     assert_eq!(scratch.list(), (Some(0), empty));
-    assert_eq!(scratch.asked(), "check decklint\n", "once it is built it is run as it is");
+    assert_eq!(scratch.asked(), "decklint: run\n", "once it is built it is run as it is");
 }
 
 #[test]
@@ -163,7 +173,7 @@ fn a_program_that_is_not_proved_is_not_run() {
         return;
     }
     let scratch = Scratch::with_status("unproved", 3);
-    scratch.age("target/bin/decklint", 2000);
+    scratch.age(PROGRAM, 2000);
     assert_eq!(scratch.list(), (Some(3), String::new()));
-    assert_eq!(scratch.asked(), "check decklint\n");
+    assert_eq!(scratch.asked(), "decklint: run\n");
 }

@@ -49,7 +49,7 @@ fn written(text: &str, judged: &str, table: &mut Profiles) {
 /// Rows such as `(104, Must, O)` of the table by numbers.
 fn defined(text: &str) -> Table {
     let mut table = Table::new();
-    let (_, rows) = text.split_once("\nruleTable =\n").expect("the definition of the table");
+    let (_, rows) = text.split_once("\nrule_table =\n").expect("the definition of the table");
     for line in rows.lines().map(str::trim).take_while(|line| *line != "∷ []") {
         let Some((_, row)) = line.split_once('(').filter(|_| !line.starts_with("--")) else { continue };
         let row = row.strip_suffix(')').expect("a row ends");
