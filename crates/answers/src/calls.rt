@@ -4,7 +4,7 @@ ghost use Rattle.lint.specs.Answers.{room_of};
 ghost use Rattle.writer.specs.Answers.{write_room};
 ghost use Rattle.answers.specs.Rooms.{fresh_room, room_of_call, room_of_writing};
 
-use crate::lines::{put, say_answer, say_written};
+use crate::lines::{put_out, say_answer, say_written};
 use std::io::Print;
 
 // Octets that differ from their neighbours and from those 256 places on, so that a changed one shows.
@@ -19,7 +19,7 @@ pub fn fill(room: &mut [u8])
 }
 
 pub fn say_no_call(output: &impl Print) {
-    put(output, b"no call\n");
+    put_out(output, b"no call\n");
 }
 
 fn call_linter(output: &impl Print, certificate: &[u8], issuer: &[u8], profile: u8, room: &mut [u8])
@@ -27,7 +27,7 @@ fn call_linter(output: &impl Print, certificate: &[u8], issuer: &[u8], profile: 
 {
     fill(room);
     say_answer(output, lint::lint(certificate, issuer, profile, room));
-    put(output, room);
+    put_out(output, room);
 }
 
 // Answers a frame of kind 12 with a part of the room that is lent.
@@ -67,7 +67,7 @@ fn call_writer(
         output,
         writer::write_record(number, profile, certificate, issuer, room),
     );
-    put(output, room);
+    put_out(output, room);
 }
 
 // Answers a frame of kind 13 with a part of the room that is lent.

@@ -4,7 +4,7 @@ ghost use Rattle.reader.specs.Events.{events};
 ghost use Rattle.answers.specs.Rooms.{room_past, room_of_deck};
 
 use crate::calls::fill;
-use crate::lines::{put, say_counts, say_lost, say_record};
+use crate::lines::{put_out, say_counts, say_lost, say_record};
 use reader::Item;
 use std::io::Print;
 
@@ -13,7 +13,7 @@ fn say_item(output: &impl Print, item: Item, position: usize, room: &[u8]) {
     match item {
         Item::Record(record) => {
             say_record(output, record);
-            put(output, room);
+            put_out(output, room);
         }
         Item::Lost(loss) => say_lost(output, position, loss),
         Item::End => {}

@@ -11,7 +11,7 @@ const LINE: usize = 80;
 
 // Writes octets. Where standard output takes them no more, nothing is left to say so on, and whoever reads the answers
 // sees that some are missing.
-pub fn put(output: &impl Print, octets: &[u8]) {
+pub fn put_out(output: &impl Print, octets: &[u8]) {
     let _ = output.write_all(octets);
 }
 
@@ -30,7 +30,7 @@ fn put_values(line: &mut [u8], n: usize, text: &[u8], v: Values) -> usize {
 fn end(output: &impl Print, line: &mut [u8], n: usize) {
     let m = word(line, n, b"\n");
     if m <= line.len() {
-        put(output, &line[..m]);
+        put_out(output, &line[..m]);
     }
 }
 

@@ -34,7 +34,7 @@ use std::io::{Print, Read};
 
 fn answer_form(output: &impl Print, found: Verdict) {
     match found {
-        Verdict::Fits => lines::put(output, b"certificate\n"),
+        Verdict::Fits => lines::put_out(output, b"certificate\n"),
         Verdict::Wrong(place) => lines::say(output, b"departs at ", place),
         Verdict::Stranger => lines::say(output, b"departs at ", 0),
     }
@@ -50,7 +50,7 @@ fn answer_certificate(output: &impl Print, octets: &[u8]) {
 
 fn answer_encoding(output: &impl Print, octets: &[u8]) {
     match der::check_der(octets) {
-        Soundness::Sound => lines::put(output, b"sound\n"),
+        Soundness::Sound => lines::put_out(output, b"sound\n"),
         Soundness::Unsound(place) => lines::say(output, b"unsound at ", place),
         Soundness::Unordered(place) => lines::say(output, b"unordered at ", place),
     }
@@ -58,9 +58,9 @@ fn answer_encoding(output: &impl Print, octets: &[u8]) {
 
 fn answer_value(output: &impl Print, octets: &[u8], slot: usize) {
     if asn::value_ok(octets, slot, 0, octets.len()) {
-        lines::put(output, b"value\n");
+        lines::put_out(output, b"value\n");
     } else {
-        lines::put(output, b"no value\n");
+        lines::put_out(output, b"no value\n");
     }
 }
 

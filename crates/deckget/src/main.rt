@@ -137,7 +137,7 @@ fn side_in(rt: &impl Env, i: usize) -> Choice {
 
 fn main(rt: HostRuntime) {
     let errors = rt.stderr();
-    if streams::arg_count(&rt) != 3 {
+    if streams::arg_count(&rt, 4) != 3 {
         return words::say_how_to_call(&errors);
     }
     let first = number_in(&rt, 1);

@@ -1,9 +1,9 @@
 // What is said on standard error.
 use std::io::Print;
-use streams::say;
+use streams::say_text;
 
 pub fn say_how_to_call(errors: &impl Print) {
-    say(
+    say_text(
         errors,
         b"usage: deckget NUMBER certificate|issuer < DECK > FILE\n",
     );
@@ -11,7 +11,7 @@ pub fn say_how_to_call(errors: &impl Print) {
 
 // The words of the listing.
 pub fn say_too_long(errors: &impl Print) {
-    say(errors, b"deck too long\n");
+    say_text(errors, b"deck too long\n");
 }
 
 fn say_number(errors: &impl Print, number: usize) {
@@ -22,17 +22,17 @@ fn say_number(errors: &impl Print, number: usize) {
 pub fn say_count(errors: &impl Print, number: usize, count: usize) {
     match count {
         0 => {
-            say(errors, b"the deck has no whole record ");
+            say_text(errors, b"the deck has no whole record ");
             say_number(errors, number);
-            say(errors, b"; nothing was written\n");
+            say_text(errors, b"; nothing was written\n");
         }
         1 => {}
         _ => {
-            say(errors, b"the deck has ");
+            say_text(errors, b"the deck has ");
             say_number(errors, count);
-            say(errors, b" records ");
+            say_text(errors, b" records ");
             say_number(errors, number);
-            say(errors, b", which were written one behind the other\n");
+            say_text(errors, b", which were written one behind the other\n");
         }
     }
 }

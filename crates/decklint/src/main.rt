@@ -60,11 +60,11 @@ fn list_input(input: &mut impl Read, output: &impl Print, errors: &impl Print) {
 }
 
 fn say_usage(errors: &impl Print) {
-    streams::say(errors, b"usage: decklint < DECK\n");
+    streams::say_text(errors, b"usage: decklint < DECK\n");
 }
 
 fn main(rt: HostRuntime) {
-    if streams::arg_count(&rt) != 1 {
+    if streams::arg_count(&rt, 2) != 1 {
         return say_usage(&rt.stderr());
     }
     list_input(&mut rt.stdin(), &rt, &rt.stderr());

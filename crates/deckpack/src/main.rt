@@ -131,7 +131,7 @@ fn pack_arguments(rt: &(impl Env + Files + Print), errors: &impl Print, target: 
 
 fn main(rt: HostRuntime) {
     let errors = rt.stderr();
-    match streams::arg_count(&rt) {
+    match streams::arg_count(&rt, 7) {
         5 => pack_arguments(&rt, &errors, Target::Output),
         6 => pack_arguments(&rt, &errors, Target::Deck),
         _ => words::say_usage(&errors),

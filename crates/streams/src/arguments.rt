@@ -1,5 +1,5 @@
 // The arguments that a program was started with.
-ghost use Rattle.std.specs.Prelude.{◌≡◌, length};
+ghost use Rattle.std.specs.Prelude.{◌≡◌, ◌≤◌, length};
 ghost use Rattle.streams.specs.Reading.{Within};
 
 use crate::reading::Loaded;
@@ -24,14 +24,16 @@ fn is_given(rt: &impl Env, i: usize) -> bool {
     !matches!(rt.arg(i, &mut none), Err(FillError::NotPresent))
 }
 
-// How many arguments the program was started with, its own name among them.
-pub fn arg_count(rt: &impl Env) -> usize {
-    for i in 0..usize::MAX {
+// How many arguments the program was started with, its own name among them; `most` where there are more.
+pub fn arg_count(rt: &impl Env, most: usize) -> usize
+    ensures { result ≤ most }
+{
+    for i in 0..most {
         if !is_given(rt, i) {
             return i;
         }
     }
-    usize::MAX
+    most
 }
 
 // Puts argument i at the front of the space. It cannot where there is no such argument, or one that is longer.

@@ -9,5 +9,5 @@ mod writing;
 
 pub use arguments::{arg_count, argument, name_space};
 pub use reading::{Loaded, load, open, read_all};
-pub use saying::{say, say_number, say_why};
+pub use saying::{say_number, say_text, say_why};
 pub use writing::{write_out, write_to};

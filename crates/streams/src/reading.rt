@@ -1,5 +1,5 @@
 // Files that are read to their end.
-ghost use Rattle.std.specs.Prelude.{length};
+ghost use Rattle.std.specs.Prelude.{length, IfOk, IsUtf8};
 ghost use Rattle.streams.specs.Reading.{Within};
 
 use crate::arguments::{argument, name_space};
@@ -46,7 +46,9 @@ pub fn read_all(file: &mut impl Read, space: &mut [u8]) -> Loaded
 }
 
 // Opens the file of that name. The library opens none by a name that is no text in UTF-8.
-pub fn open<R: Files>(rt: &R, how: &OpenOptions, name: &[u8]) -> io::Result<R::File> {
+pub fn open<R: Files>(rt: &R, how: &OpenOptions, name: &[u8]) -> io::Result<R::File>
+    ensures { IfOk result (λ file. IsUtf8 name.now) }
+{
     match str::from_utf8(name) {
         Ok(path) => how.open(rt, path),
         Err(_) => Err(Error::from(ErrorKind::InvalidFilename)),
