@@ -10,12 +10,15 @@ use comparison::lines::is_finding;
 
 /// Texts in backquotes that no rule below takes, each with the reason why it may stand there.
 const EXCEPTIONS: &[(&str, &[&str])] = &[
-    ("words of the language and of its kit", &["result ≡ definition (inputs)", "s.now", "os::fail"]),
+    ("words of the language and of its kit", &["result ≡ definition (inputs)", "s.now"]),
     (
         "what `rt version` and the gate print",
         &["rattle-kit-13f logic dac8208d650f15bf", "N passed, 0 failed"],
     ),
-    ("a word of a line of the listing, a reply of the program `answers`", &["stray", "departs at P"]),
+    (
+        "a word of a line of the listing, a reply of the program `answers`, what `deckpack` says",
+        &["stray", "departs at P", "NAME: invalid filename"],
+    ),
 ];
 
 /// Words with which a command line begins.
