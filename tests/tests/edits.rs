@@ -96,22 +96,26 @@ fn judged_lines(name: &str, words: &[&str]) -> (bool, String) {
     ended(&file)
 }
 
+/// Each of so many edits was refused at a fact, and the tool says so.
+fn all_taken((taken, said): (bool, String), edits: usize) {
+    assert_eq!(said, format!("{edits} edits refused at a fact, 0 not\n"));
+    assert!(taken);
+}
+
+/// None of so many was, and the tool says so of each.
+fn all_told((taken, said): (bool, String), edits: usize) {
+    assert!(!taken);
+    assert_eq!(said.lines().filter(|line| line.contains("not refused at a fact")).count(), edits, "{said}");
+}
+
 #[test]
 fn errors_at_facts_are_taken() {
-    let (taken, said) = judged("facts", AT_A_FACT);
-    assert_eq!(said, format!("{} edits refused at a fact, 0 not\n", AT_A_FACT.len()));
-    assert!(taken);
+    all_taken(judged("facts", AT_A_FACT), AT_A_FACT.len());
 }
 
 #[test]
 fn other_errors_are_told() {
-    let (taken, said) = judged("no-facts", AT_NO_FACT);
-    assert!(!taken);
-    assert_eq!(
-        said.lines().filter(|line| line.contains("not refused at a fact")).count(),
-        AT_NO_FACT.len(),
-        "{said}"
-    );
+    all_told(judged("no-facts", AT_NO_FACT), AT_NO_FACT.len());
 }
 
 #[test]
@@ -123,20 +127,12 @@ fn one_other_error_among_many_is_told() {
 
 #[test]
 fn lines_of_errors_at_facts_are_taken() {
-    let (taken, said) = judged_lines("facts-said", LINES_AT_A_FACT);
-    assert_eq!(said, format!("{} edits refused at a fact, 0 not\n", LINES_AT_A_FACT.len()));
-    assert!(taken);
+    all_taken(judged_lines("facts-said", LINES_AT_A_FACT), LINES_AT_A_FACT.len());
 }
 
 #[test]
 fn lines_of_other_errors_and_of_edits_that_are_amiss_are_told() {
-    let (taken, said) = judged_lines("no-facts-said", LINES_AT_NO_FACT);
-    assert!(!taken);
-    assert_eq!(
-        said.lines().filter(|line| line.contains("not refused at a fact")).count(),
-        LINES_AT_NO_FACT.len(),
-        "{said}"
-    );
+    all_told(judged_lines("no-facts-said", LINES_AT_NO_FACT), LINES_AT_NO_FACT.len());
 }
 
 #[test]
