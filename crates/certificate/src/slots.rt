@@ -161,10 +161,8 @@ pub fn read_slots(s: &[u8], list: Head) -> SlotTable
     let firsts = found.each;
     let none = empty_slot(der::missing(list.end));
     let mut each = [none; SLOTS];
-    let mut slot = 0;
-    while slot < SLOTS {
+    for slot in 0..SLOTS {
         each[slot] = slot_or(s, slot, firsts[slot], none);
-        slot += 1;
     }
     SlotTable {
         each: each,

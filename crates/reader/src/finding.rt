@@ -54,13 +54,11 @@ fn are_parts(deck: &[u8], position: usize, number: usize, n: usize, k: usize) ->
     requires { 512 * position ≤ length deck.now }
     ensures { result ≡ are_parts number n 0 k (from deck.now position) }
 {
-    let mut j = 0;
-    while j < k {
+    for j in 0..k {
         let block = block_at(deck, position + j);
         if !is_part(number, n, j, block) {
             return false;
         }
-        j += 1;
     }
     true
 }

@@ -7,10 +7,8 @@ fn gather_inside(deck: &[u8], position: usize, k: usize, desk: &mut [u8])
     requires { (512 * (position + k) ≤ length deck.now) × (k * 502 ≤ length desk.old) }
     ensures { desk.new ≡ data_from k (from deck.now position) ++ drop (k * 502) desk.old }
 {
-    let mut j = 0;
-    while j < k {
+    for j in 0..k {
         octets::copy(deck, 512 * (position + j) + 8, 502, desk, 502 * j);
-        j += 1;
     }
 }
 

@@ -82,12 +82,10 @@ fn put_blocks(number: u32, n: usize, count: usize, desk: &[u8], room: &mut [u8])
     requires { (n < 65536) × (count < 256) × (count * 502 ≤ length desk.now) × (512 * count ≤ length room.old) }
     ensures { room.new ≡ end_to_end (blocks_from number n 0 count desk.now) ++ drop (512 * count) room.old }
 {
-    let mut part: usize = 0;
-    while part < count {
+    for part in 0..count {
         let at = part * 512;
         let end = at + 512;
         put_block(number, n, part, desk, &mut room[at..end]);
-        part += 1;
     }
 }
 

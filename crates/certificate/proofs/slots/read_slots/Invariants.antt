@@ -9,6 +9,3 @@ use Rattle.certificate.proofs.slots.read_slots.Given as goal
 
 abbrev pub invariant-loop-slot : goal.invariant-loop-slot
 invariant-loop-slot l = (l.slot ≤ slot_count) × (l.each ≡ by_slot (below (λ (k : ℕ). slot_or l.s l.none k (get_or l.firsts k unread)) l.none l.slot))
-
-abbrev pub decreases-loop-slot : goal.decreases-loop-slot
-decreases-loop-slot l = slot_count - l.slot

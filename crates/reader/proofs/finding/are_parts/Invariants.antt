@@ -8,6 +8,3 @@ use Rattle.reader.proofs.finding.are_parts.Given as goal
 abbrev pub invariant-loop-j : goal.invariant-loop-j
 invariant-loop-j l = (l.j ≤ l.k) × (512 * (l.position + l.j) ≤ length l.deck)
     × (are_parts l.number l.n 0 l.k (from l.deck l.position) ≡ are_parts l.number l.n l.j (l.k - l.j) (from l.deck (l.position + l.j)))
-
-abbrev pub decreases-loop-j : goal.decreases-loop-j
-decreases-loop-j l = l.k - l.j

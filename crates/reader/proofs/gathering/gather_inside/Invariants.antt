@@ -8,6 +8,3 @@ use Rattle.reader.proofs.gathering.gather_inside.Given as goal
 
 abbrev pub invariant-loop-j : goal.invariant-loop-j
 invariant-loop-j l = (l.j ≤ l.k) × (length l.desk ≡ length l.initial.desk) × (l.desk ≡ data_from l.j (from l.deck l.position) ++ drop (l.j * 502) l.initial.desk)
-
-abbrev pub decreases-loop-j : goal.decreases-loop-j
-decreases-loop-j l = l.k - l.j

@@ -9,6 +9,3 @@ use Rattle.writer.proofs.writing.put_blocks.Given as goal
 
 abbrev pub invariant-loop-part : goal.invariant-loop-part
 invariant-loop-part l = (l.part ≤ l.count) × (length l.room ≡ length l.initial.room) × (l.room ≡ end_to_end (blocks_from l.number l.n 0 l.part l.desk) ++ drop (512 * l.part) l.initial.room)
-
-abbrev pub decreases-loop-part : goal.decreases-loop-part
-decreases-loop-part l = l.count - l.part
