@@ -1,10 +1,10 @@
 // Lines of words and numbers. A line is put together first and written at once.
-use lint::Answer;
+use lint::Refusal;
 use reader::{Loss, Record};
 use refusals::Values;
 use std::io::Print;
 use texts::{field, word};
-use writer::Placing;
+use writer::NotWritten;
 
 // So many octets hold every line.
 const LINE: usize = 80;
@@ -41,13 +41,13 @@ pub fn say(output: &impl Print, text: &[u8], number: usize) {
     end(output, &mut line, a);
 }
 
-pub fn say_answer(output: &impl Print, answer: Answer) {
+pub fn say_answer(output: &impl Print, answer: Result<usize, Refusal>) {
     let mut line = [0u8; LINE];
     let a = put_values(&mut line, 0, b"findings ", lint::answer_values(answer));
     end(output, &mut line, a);
 }
 
-pub fn say_written(output: &impl Print, answer: Placing) {
+pub fn say_written(output: &impl Print, answer: Result<usize, NotWritten>) {
     let mut line = [0u8; LINE];
     let a = put_values(&mut line, 0, b"blocks ", writer::placing_values(answer));
     end(output, &mut line, a);

@@ -16,7 +16,6 @@ use std::io::Print;
 use std::rt::{Env, Files};
 use streams::Loaded;
 use texts::Numeral;
-use writer::Placing;
 
 // The most blocks of a record, 33, take so many octets.
 const ROOM: usize = 16896;
@@ -54,8 +53,8 @@ fn pack(
     let mut room = [0u8; ROOM];
     let answer = writer::write_record(number, profile, certificate, issuer, &mut room);
     match answer {
-        Placing::Blocks(count) => hand_out(rt, errors, target, &room[..512 * count]),
-        Placing::Refused(r) => words::say_refusal(errors, r),
+        Ok(count) => hand_out(rt, errors, target, &room[..512 * count]),
+        Err(r) => words::say_refusal(errors, r),
     }
 }
 

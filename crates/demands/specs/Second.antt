@@ -3,21 +3,19 @@
 -- empty report means that no judged rule is broken. A record written to the deck reads back as it was."
 --
 -- Of any answer r, and any room `last` after the call, that the linter's contract (`Answered`) allows.
-use Rattle.std.specs.Prelude.{true, List, [], ◌↔◌, ◌≡◌, ℕ, ◌*◌, ◌<◌, get_or, drop}
+use Rattle.std.specs.Prelude.{true, List, [], ◌↔◌, ◌≡◌, ℕ, ◌*◌, ◌<◌, get_or, drop, Ok, Result, Some}
 use Rattle.der.specs.declared.header.Head.{Head}
 use Rattle.profiles.specs.Fields.{asked_of}
 use Rattle.profiles.specs.Judged.{judged_by}
 use Rattle.profiles.specs.declared.fields.Profile.{Profile}
-use Rattle.profiles.specs.declared.fields.Asked.TheVariants.{For}
 use Rattle.certificate.specs.Issuer.{known_of}
 use Rattle.report.specs.Entries.{width, decode}
 use Rattle.report.specs.Order.{In, RisingEntries, EntriesLevelled}
 use Rattle.report.specs.Rows.{Row, BrokenIn}
 use Rattle.report.specs.declared.sink.Entry.{Entry}
 use Rattle.rules.specs.Rules.{rules_for}
+use Rattle.lint.specs.declared.reasons.Refusal.{Refusal}
 use Rattle.lint.specs.Answers.{Answered}
-use Rattle.lint.specs.declared.linting.Answer.{Answer}
-use Rattle.lint.specs.declared.linting.Answer.TheVariants.{Report}
 use Rattle.places.specs.Statement.{AtElements}
 use Rattle.recovery.specs.Submitted.{Submitted}
 use Rattle.recovery.specs.Statements.{ReadsBack}
@@ -48,7 +46,7 @@ pub record ExactReport (p : Profile) (certificate issuer room : List ℕ) (n : �
 
 pub record Demand2 : Type 0 where
   -- what is not refused is answered with a report, for the profile of that number
-  pub report : (certificate issuer : List ℕ) (profile : ℕ) (room : List ℕ) (r : Answer) (n : ℕ) (last : List ℕ)
-      → Answered certificate issuer profile room r last → r ≡ Report n
-      → (p : Profile) × (asked_of profile ≡ For p) × ExactReport p certificate issuer room n last
+  pub report : (certificate issuer : List ℕ) (profile : ℕ) (room : List ℕ) (r : Result ℕ Refusal) (n : ℕ) (last : List ℕ)
+      → Answered certificate issuer profile room r last → r ≡ Ok n
+      → (p : Profile) × (asked_of profile ≡ Some p) × ExactReport p certificate issuer room n last
   pub reads_back : (number : ℕ) (s : Submitted) → ReadsBack number s

@@ -2,12 +2,11 @@
 -- they stand, so that each spoiled block fails its check. Reading gives exactly the records none of whose blocks was spoiled, in their order, with the
 -- findings or the refusal that each would get alone, and lists every other block once as lost. One byte of a good block changed, two unequal bytes of it
 -- before the check exchanged, a block all 00 or all FF: each of these always fails the check."
-use Rattle.std.specs.Prelude.{true, false, List, [], ◌∷◌, ◌++◌, ◌≡◌, ℕ, suc, ◌+◌, ◌*◌, ◌^◌, ◌≤◌, ◌<◌, length, set, take, replicate}
+use Rattle.std.specs.Prelude.{true, false, List, [], ◌∷◌, ◌++◌, ◌≡◌, ℕ, suc, ◌+◌, ◌*◌, ◌^◌, ◌≤◌, ◌<◌, length, set, take, replicate, Ok, Result}
 use Rattle.octets.specs.Octets.{octet_at, Octets}
 use Rattle.blocks.specs.Block.{sound}
+use Rattle.writer.specs.declared.reasons.NotWritten.{NotWritten}
 use Rattle.writer.specs.Answers.{Written}
-use Rattle.writer.specs.declared.writing.Placing.{Placing}
-use Rattle.writer.specs.declared.writing.Placing.TheVariants.{Blocks}
 use Rattle.reader.specs.Runs.{blocks}
 use Rattle.reader.specs.Stepping.{Stepped, item_blocks}
 use Rattle.reader.specs.Walking.{Handed, handed_at}
@@ -25,8 +24,8 @@ use Rattle.reader.specs.declared.stepping.Item.TheVariants as Items
 -- calls that the writer's contract answers with blocks, numbered `number` and on, and their blocks laid end to end
 pub data WrittenDeck : ℕ → List Submitted → List ℕ → Type 0 where
   no_record : {number : ℕ} → WrittenDeck number [] []
-  a_record : {number : ℕ} {s : Submitted} {ss : List Submitted} {deck : List ℕ} (room last : List ℕ) (r : Placing) (count : ℕ)
-      → Written number s.profile s.certificate s.issuer room r last → r ≡ Blocks count → WrittenDeck (suc number) ss deck
+  a_record : {number : ℕ} {s : Submitted} {ss : List Submitted} {deck : List ℕ} (room last : List ℕ) (r : Result ℕ NotWritten) (count : ℕ)
+      → Written number s.profile s.certificate s.issuer room r last → r ≡ Ok count → WrittenDeck (suc number) ss deck
       → WrittenDeck number (s ∷ ss) (take (512 * count) last ++ deck)
 
 -- ---- "reading"

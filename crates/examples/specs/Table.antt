@@ -1,6 +1,6 @@
 -- The examples of document 01, "Examples on the edge", that are marked P, and the deck of "The deck". Each row has the paper's number, what it asks
 -- and what it answers.
-use Rattle.std.specs.Prelude.{Bool, true, false, List, [], ◌∷◌, ◌++◌, ℕ, length, take, drop, replicate, ℤ, pos, negsuc}
+use Rattle.std.specs.Prelude.{Bool, true, false, List, [], ◌∷◌, ◌++◌, ℕ, length, take, drop, replicate, ℤ, pos, negsuc, Err}
 use Prim.Native.String.{String}
 use Rattle.der.specs.Tags.{octet_string_tag, utc_time_tag, sequence_tag}
 use Rattle.der.specs.Header.{head_of}
@@ -35,7 +35,6 @@ use Rattle.writer.specs.Cutting.{zero_filled, blocks_of, end_to_end}
 use Rattle.reader.specs.Runs.{blocks}
 use Rattle.reader.specs.Walking.{Handed, walk}
 use Rattle.reader.specs.declared.finding.Loss.TheVariants.{Short, Unsound}
-use Rattle.lint.specs.declared.linting.Answer.TheVariants as Lint
 use Rattle.lint.specs.declared.reasons.Side.TheVariants as Sides
 use Rattle.reader.specs.declared.stepping.Item.TheVariants as Items
 
@@ -159,7 +158,7 @@ abbrev p12_handed : List Handed
 p12_handed =
     record {
       position = 0;
-      item = Items.Record (record { number = 1; profile = 1; length = 7; answer = Lint.Refused (NotCertificate Sides.Certificate 0) });
+      item = Items.Record (record { number = 1; profile = 1; length = 7; answer = Err (NotCertificate Sides.Certificate 0) });
       report = [];
     }
     ∷ record { position = 1; item = Items.Lost Unsound; report = [] }

@@ -1,12 +1,10 @@
 -- The paper's values for each case of the linter's answers (document 01, "Refusals and their order").
-use Rattle.std.specs.Prelude.{ℕ}
+use Rattle.std.specs.Prelude.{ℕ, Err, Ok, Result}
 use Rattle.lint.specs.declared.reasons.Side.{Side}
 use Rattle.lint.specs.declared.reasons.Side.TheVariants.{Certificate, Issuer}
 use Rattle.lint.specs.declared.reasons.Inadmissible.TheVariants.{CertificateLength, IssuerLength, UnknownProfile}
 use Rattle.lint.specs.declared.reasons.Refusal.{Refusal}
 use Rattle.lint.specs.declared.reasons.Refusal.TheVariants.{Inadmissible, Unsound, Unordered, NotCertificate, NoRoom}
-use Rattle.lint.specs.declared.linting.Answer.{Answer}
-use Rattle.lint.specs.declared.linting.Answer.TheVariants.{Report, Refused}
 use Rattle.refusals.specs.Table.{wrong_certificate_length, wrong_issuer_length, unknown_profile, not_sound_der, set_out_of_order, not_certificate, too_little_room}
 use Rattle.refusals.specs.Table.{on_neither, on_certificate, on_issuer, refused, unrefused}
 use Rattle.refusals.specs.declared.table.Values.{Values}
@@ -29,6 +27,6 @@ refusal_values (NotCertificate side place) = refused not_certificate (side_numbe
 refusal_values NoRoom = refused too_little_room on_neither 0
 
 -- the count is that of the findings
-abbrev pub answer_values : Answer → Values
-answer_values (Report count) = unrefused count
-answer_values (Refused r) = refusal_values r
+abbrev pub answer_values : Result ℕ Refusal → Values
+answer_values (Ok count) = unrefused count
+answer_values (Err r) = refusal_values r

@@ -5,21 +5,7 @@ ghost use Rattle.lint.specs.Judging.{side_length_ok, by_verdict, side_judgement,
 use crate::reasons::{Inadmissible, Refusal, Side};
 use asn::Verdict;
 use der::Soundness;
-use profiles::{Asked, Profile};
-
-// What refusals 1 to 3 leave: a profile to go on for, or one of them.
-#[derive(Clone, Copy)]
-pub enum Admission {
-    Admitted(Profile),
-    Refused(Inadmissible),
-}
-
-// What refusals 1 to 6 leave: a profile to lint for, or a refusal.
-#[derive(Clone, Copy)]
-pub enum Judgement {
-    Accepted(Profile),
-    Refused(Refusal),
-}
+use profiles::Profile;
 
 fn side_length_ok(n: usize) -> bool
     ensures { result ≡ side_length_ok n }
@@ -28,62 +14,57 @@ fn side_length_ok(n: usize) -> bool
 }
 
 // Refusal 6, of a side that is sound DER.
-fn by_verdict(p: Profile, side: Side, verdict: Verdict) -> Judgement
+fn by_verdict(p: Profile, side: Side, verdict: Verdict) -> Result<Profile, Refusal>
     ensures { result ≡ by_verdict p side verdict }
 {
     match verdict {
-        Verdict::Fits => Judgement::Accepted(p),
-        Verdict::Wrong(place) => Judgement::Refused(Refusal::NotCertificate(side, place)),
-        Verdict::Stranger => Judgement::Refused(Refusal::NotCertificate(side, 0)),
+        Verdict::Fits => Ok(p),
+        Verdict::Wrong(place) => Err(Refusal::NotCertificate(side, place)),
+        Verdict::Stranger => Err(Refusal::NotCertificate(side, 0)),
     }
 }
 
 // Refusals 4, 5 and 6 of one side.
-fn judge_side(p: Profile, side: Side, s: &[u8]) -> Judgement
+#[tactic(auto, unfolding(crate::specs::Judging::side_judgement))]
+fn judge_side(p: Profile, side: Side, s: &[u8]) -> Result<Profile, Refusal>
     ensures { result ≡ side_judgement p side s.now }
 {
     let found = der::check_der(s);
     match found {
         Soundness::Sound => by_verdict(p, side, asn::check_certificate(s)),
-        Soundness::Unsound(place) => Judgement::Refused(Refusal::Unsound(side, place)),
-        Soundness::Unordered(place) => Judgement::Refused(Refusal::Unordered(side, place)),
+        Soundness::Unsound(place) => Err(Refusal::Unsound(side, place)),
+        Soundness::Unordered(place) => Err(Refusal::Unordered(side, place)),
     }
 }
 
 // 4, 5 and 6 on the certificate, then on the issuer.
-fn judge_both(p: Profile, certificate: &[u8], issuer: &[u8]) -> Judgement
+#[tactic(auto, unfolding(crate::specs::Judging::both_sides))]
+fn judge_both(p: Profile, certificate: &[u8], issuer: &[u8]) -> Result<Profile, Refusal>
     ensures { result ≡ both_sides p certificate.now issuer.now }
 {
-    let first = judge_side(p, Side::Certificate, certificate);
-    match first {
-        Judgement::Refused(r) => Judgement::Refused(r),
-        Judgement::Accepted(_) => judge_side(p, Side::Issuer, issuer),
-    }
+    judge_side(p, Side::Certificate, certificate)?;
+    judge_side(p, Side::Issuer, issuer)
 }
 
-// Refusals 1, 2 and 3, which the deck's writer gives too: of a certificate and an issuer of so many octets.
-pub fn admit(certificate: usize, issuer: usize, profile: u8) -> Admission
+// Refusals 1, 2 and 3, which the deck's writer gives too, or a profile to go on for: of a certificate and an issuer of so many octets.
+#[tactic(auto, unfolding(crate::specs::Judging::admission_of))]
+pub fn admit(certificate: usize, issuer: usize, profile: u8) -> Result<Profile, Inadmissible>
     ensures { result ≡ admission_of certificate issuer profile }
 {
     if !side_length_ok(certificate) {
-        return Admission::Refused(Inadmissible::CertificateLength);
+        return Err(Inadmissible::CertificateLength);
     }
     if !side_length_ok(issuer) {
-        return Admission::Refused(Inadmissible::IssuerLength);
+        return Err(Inadmissible::IssuerLength);
     }
-    let asked = profiles::profile_of(profile);
-    match asked {
-        Asked::Unknown => Admission::Refused(Inadmissible::UnknownProfile),
-        Asked::For(p) => Admission::Admitted(p),
-    }
+    profiles::profile_of(profile).ok_or(Inadmissible::UnknownProfile)
 }
 
-pub fn examine(certificate: &[u8], issuer: &[u8], profile: u8) -> Judgement
+// Refusals 1 to 6, or a profile to lint for.
+#[tactic(auto, unfolding(crate::specs::Judging::judgement_of))]
+pub fn examine(certificate: &[u8], issuer: &[u8], profile: u8) -> Result<Profile, Refusal>
     ensures { result ≡ judgement_of certificate.now issuer.now profile }
 {
-    let admission = admit(certificate.len(), issuer.len(), profile);
-    match admission {
-        Admission::Refused(r) => Judgement::Refused(Refusal::Inadmissible(r)),
-        Admission::Admitted(p) => judge_both(p, certificate, issuer),
-    }
+    let p = admit(certificate.len(), issuer.len(), profile)?;
+    judge_both(p, certificate, issuer)
 }

@@ -5,6 +5,6 @@ mod judging;
 mod linting;
 mod reasons;
 
-pub use judging::{Admission, Judgement, admit, examine};
-pub use linting::{Answer, answer_values, lint};
+pub use judging::{admit, examine};
+pub use linting::{answer_values, lint};
 pub use reasons::{Inadmissible, Refusal, Side, inadmissible_values, refusal_values};

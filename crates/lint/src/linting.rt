@@ -8,57 +8,59 @@ ghost use Rattle.lint.specs.Refusals.{answer_values};
 ghost use Rattle.lint.specs.Answers.{Answered};
 ghost use Rattle.lint.specs.Workings.Answers.{Reported};
 
-use crate::judging::{Judgement, examine};
+use crate::judging::examine;
 use crate::reasons::{Refusal, refusal_values};
 use facts::Facts;
 use profiles::Profile;
 use refusals::{Values, unrefused};
 
-#[derive(Clone, Copy)]
-pub enum Answer {
-    // so many findings
-    Report(usize),
-    Refused(Refusal),
-}
-
 // The paper's number, side, place and count of findings.
-pub fn answer_values(answer: Answer) -> Values
+pub fn answer_values(answer: Result<usize, Refusal>) -> Values
     ensures { result ≡ answer_values answer }
 {
     match answer {
-        Answer::Report(findings) => unrefused(findings),
-        Answer::Refused(r) => refusal_values(r),
+        Ok(findings) => unrefused(findings),
+        Err(r) => refusal_values(r),
     }
 }
 
 // The answer to the findings by these facts, and the room that they are written to.
-fn report_facts(room: &mut [u8], p: Profile, s: &[u8], f: Facts, issuer: &[u8]) -> Answer
+fn report_facts(
+    room: &mut [u8],
+    p: Profile,
+    s: &[u8],
+    f: Facts,
+    issuer: &[u8],
+) -> Result<usize, Refusal>
     ensures { Reported (findings_of p (all_rules p (case_of s.now f issuer.now))) room.old result room.new }
 {
     let count = rules::all_rules(&mut room[..0], 0, p, s, f, issuer);
     if !report::has_room(count, room.len()) {
-        return Answer::Refused(Refusal::NoRoom);
+        return Err(Refusal::NoRoom);
     }
     if 0 < count {
         rules::all_rules(room, 0, p, s, f, issuer);
     }
-    Answer::Report(count)
+    Ok(count)
 }
 
 // The same of a certificate and its issuer's, both accepted.
-fn report_on(room: &mut [u8], p: Profile, s: &[u8], issuer: &[u8]) -> Answer
+fn report_on(room: &mut [u8], p: Profile, s: &[u8], issuer: &[u8]) -> Result<usize, Refusal>
     ensures { Reported (findings p s.now issuer.now) room.old result room.new }
 {
     let f = facts::facts_of(s, issuer);
     report_facts(room, p, s, f, issuer)
 }
 
-pub fn lint(certificate: &[u8], issuer: &[u8], profile: u8, room: &mut [u8]) -> Answer
+// So many findings, written to the room, or a refusal.
+pub fn lint(
+    certificate: &[u8],
+    issuer: &[u8],
+    profile: u8,
+    room: &mut [u8],
+) -> Result<usize, Refusal>
     ensures { Answered certificate.now issuer.now profile room.old result room.new }
 {
-    let judgement = examine(certificate, issuer, profile);
-    match judgement {
-        Judgement::Refused(r) => Answer::Refused(r),
-        Judgement::Accepted(p) => report_on(room, p, certificate, issuer),
-    }
+    let p = examine(certificate, issuer, profile)?;
+    report_on(room, p, certificate, issuer)
 }

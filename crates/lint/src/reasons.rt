@@ -1,5 +1,6 @@
 // The linter's refusals ("Refusals and their order", document 01), and the paper's values of each.
 ghost use Rattle.std.specs.Prelude.{◌≡◌};
+ghost use Rattle.lint.specs.declared.reasons.Refusal.TheVariants as Refusal;
 ghost use Rattle.lint.specs.Refusals.{side_number, inadmissible_values, refusal_values};
 
 use refusals::{
@@ -8,14 +9,14 @@ use refusals::{
     refused,
 };
 
-#[derive(Clone, Copy)]
+#[derive(Clone, Copy, Debug, PartialEq, Eq)]
 pub enum Side {
     Certificate,
     Issuer,
 }
 
 // What keeps a call from being looked at. The deck's writer gives these too.
-#[derive(Clone, Copy)]
+#[derive(Clone, Copy, Debug, PartialEq, Eq)]
 pub enum Inadmissible {
     // the certificate has 0 or over 8,192 octets
     CertificateLength,
@@ -25,7 +26,7 @@ pub enum Inadmissible {
     UnknownProfile,
 }
 
-#[derive(Clone, Copy)]
+#[derive(Clone, Copy, Debug, PartialEq, Eq)]
 pub enum Refusal {
     Inadmissible(Inadmissible),
     // not sound DER, at the first faulty element
@@ -36,6 +37,14 @@ pub enum Refusal {
     NotCertificate(Side, usize),
     // too little room
     NoRoom,
+}
+
+impl From<Inadmissible> for Refusal {
+    ghost from_gives = { λ r refusal. refusal ≡ Refusal.Inadmissible r };
+
+    fn from(r: Inadmissible) -> Refusal {
+        Refusal::Inadmissible(r)
+    }
 }
 
 fn side_number(side: Side) -> usize

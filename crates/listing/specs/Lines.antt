@@ -1,5 +1,5 @@
 -- The lines that document 01 ("The deck") prints, each quoted from it.
-use Rattle.std.specs.Prelude.{cond, List, [], ◌++◌, ℕ, eqb}
+use Rattle.std.specs.Prelude.{cond, List, [], ◌++◌, ℕ, eqb, Err, Ok, Result}
 use Prim.Native.String.{String}
 use Rattle.texts.specs.Texts.{word, field_of}
 use Rattle.profiles.specs.Levels.{level_number}
@@ -8,8 +8,6 @@ use Rattle.profiles.specs.declared.levels.Level.TheVariants.{Must, Should}
 use Rattle.report.specs.declared.sink.Entry.{Entry}
 use Rattle.lint.specs.Refusals.{refusal_values}
 use Rattle.lint.specs.declared.reasons.Refusal.{Refusal}
-use Rattle.lint.specs.declared.linting.Answer.{Answer}
-use Rattle.lint.specs.declared.linting.Answer.TheVariants.{Report, Refused}
 use Rattle.reader.specs.declared.finding.Loss.{Loss}
 use Rattle.reader.specs.declared.finding.Loss.TheVariants.{Short, Unsound, Stray}
 use Rattle.reader.specs.declared.stepping.Record.{Record}
@@ -37,9 +35,9 @@ refusal_text r =
     field_of " refused " (refusal_values r).number ++ (field_of " side " (refusal_values r).side ++ field_of " at " (refusal_values r).place)
 
 -- this, or " findings 2"
-abbrev pub answer_text : Answer → List ℕ
-answer_text (Report count) = field_of " findings " count
-answer_text (Refused r) = refusal_text r
+abbrev pub answer_text : Result ℕ Refusal → List ℕ
+answer_text (Ok count) = field_of " findings " count
+answer_text (Err r) = refusal_text r
 
 -- "record 1 profile 3 findings 2", "record 1 profile 1 refused 6 side 1 at 0"
 unfoldable pub record_line : Record → List ℕ

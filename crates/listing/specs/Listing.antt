@@ -1,15 +1,14 @@
 -- The listing of a deck: all that the program prints.
-use Rattle.std.specs.Prelude.{cond, List, [], ◌∷◌, ◌++◌, ℕ, leb, length, replicate}
+use Rattle.std.specs.Prelude.{cond, List, [], ◌∷◌, ◌++◌, ℕ, leb, length, replicate, Err, Ok, Result}
 use Rattle.listing.specs.Lines.{finding_line, record_line, lost_line, total_line, too_long_line}
 use Rattle.report.specs.Entries.{decode}
 use Rattle.report.specs.declared.sink.Entry.{Entry}
-use Rattle.lint.specs.declared.linting.Answer.{Answer}
-use Rattle.lint.specs.declared.linting.Answer.TheVariants.{Report, Refused}
 use Rattle.reader.specs.Runs.{blocks}
 use Rattle.reader.specs.Events.{events}
 use Rattle.reader.specs.Counting.{tally_of}
 use Rattle.reader.specs.Walking.{Handed, all_handed_over}
 use Rattle.reader.specs.declared.stepping.Record.{Record}
+use Rattle.lint.specs.declared.reasons.Refusal.{Refusal}
 use Rattle.reader.specs.declared.stepping.Item.{Item}
 use Rattle.reader.specs.declared.stepping.Item.TheVariants as Items
 
@@ -18,9 +17,9 @@ finding_lines [] = []
 finding_lines (e ∷ es) = finding_line e ++ finding_lines es
 
 -- the entries that an answer counts, as the report's octets say them
-abbrev pub reported_entries : Answer → List ℕ → List Entry
-reported_entries (Report count) report = decode count report
-reported_entries (Refused r) report = []
+abbrev pub reported_entries : Result ℕ Refusal → List ℕ → List Entry
+reported_entries (Ok count) report = decode count report
+reported_entries (Err r) report = []
 
 -- "An unrefused record prints "record 1 profile 3 findings 2" and, for each, "  104 at 13 length 3""
 unfoldable pub record_lines : Record → List ℕ → List ℕ

@@ -4,7 +4,7 @@ ghost use Rattle.report.specs.Entries.{entry_of, decode};
 ghost use Rattle.listing.specs.Lines.{level_text, finding_line, refusal_text, answer_text, record_line, lost_line, total_line, too_long_line};
 ghost use Rattle.listing.specs.Listing.{finding_lines, record_lines, item_lines};
 
-use lint::{Answer, Refusal};
+use lint::Refusal;
 use reader::{Counts, Item, Loss, Record};
 use report::read_entry;
 use texts::{field, word};
@@ -42,12 +42,12 @@ fn refusal(out: &mut [u8], n: usize, r: Refusal) -> usize
     field(out, b, b" at ", v.place)
 }
 
-fn outcome(out: &mut [u8], n: usize, answer: Answer) -> usize
+fn outcome(out: &mut [u8], n: usize, answer: Result<usize, Refusal>) -> usize
     ensures { Spelled (answer_text answer) n out.old result out.new }
 {
     match answer {
-        Answer::Report(count) => field(out, n, b" findings ", count),
-        Answer::Refused(r) => refusal(out, n, r),
+        Ok(count) => field(out, n, b" findings ", count),
+        Err(r) => refusal(out, n, r),
     }
 }
 
@@ -107,8 +107,8 @@ fn record_lines(out: &mut [u8], n: usize, record: Record, report: &[u8]) -> usiz
     let m = record_line(out, n, record);
     let answer = record.answer;
     match answer {
-        Answer::Report(count) => finding_lines(out, m, report, count),
-        Answer::Refused(_) => m,
+        Ok(count) => finding_lines(out, m, report, count),
+        Err(_) => m,
     }
 }
 

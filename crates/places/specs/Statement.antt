@@ -1,6 +1,6 @@
 -- "An entry is rule, start, whole length of the element (header included) ..; a place is a start and a length in the certificate"
 -- (document 01, "The report"). It is proved in proofs/Laws/Theorem.antt: `places`.
-use Rattle.std.specs.Prelude.{◌≡◌, true, List, ℕ, ◌-◌}
+use Rattle.std.specs.Prelude.{◌≡◌, true, List, ℕ, ◌-◌, Ok}
 use Rattle.facts.specs.Elements.{Element}
 use Rattle.der.specs.Contents.{element_ok}
 use Rattle.der.specs.declared.header.Head.{Head}
@@ -11,8 +11,6 @@ use Rattle.report.specs.declared.sink.Entry.{Entry}
 use Rattle.rules.specs.Rules.{findings}
 use Rattle.lint.specs.Judging.{judgement_of}
 use Rattle.lint.specs.Answers.{answer_of, room_of}
-use Rattle.lint.specs.declared.judging.Judgement.TheVariants.{Accepted}
-use Rattle.lint.specs.declared.linting.Answer.TheVariants.{Report}
 
 -- the place of an entry is that of an element: its start, and its whole length
 pub record AtElement (s : List ℕ) (e : Entry) : Type 0 where
@@ -32,8 +30,8 @@ pub record SoundElement (s : List ℕ) (h : Head) : Type 0 where
 
 -- of a certificate s that refusals 1 to 6 leave alone
 pub record Places (s issuer : List ℕ) (profile : ℕ) : Type 0 where
-  pub findings_elements : (p : Profile) → judgement_of s issuer profile ≡ Accepted p → AtElements s (findings p s issuer)
-  pub elements_sound : (p : Profile) → judgement_of s issuer profile ≡ Accepted p → (h : Head) → Element s h → SoundElement s h
+  pub findings_elements : (p : Profile) → judgement_of s issuer profile ≡ Ok p → AtElements s (findings p s issuer)
+  pub elements_sound : (p : Profile) → judgement_of s issuer profile ≡ Ok p → (h : Head) → Element s h → SoundElement s h
   -- the same of the linter's answer: the n entries that the room then says
-  pub report_elements : (room : List ℕ) (n : ℕ) → answer_of s issuer profile room ≡ Report n
+  pub report_elements : (room : List ℕ) (n : ℕ) → answer_of s issuer profile room ≡ Ok n
       → AtElements s (decode n (room_of s issuer profile room))

@@ -1,20 +1,18 @@
 -- The profiles by their numbers (document 01, first paragraph, and document 02, CR 1), and what they ask of fields, subject and key ("Rules on fields"). What
 -- differs between profiles is said by one arm a profile.
-use Rattle.std.specs.Prelude.{Bool, true, false, cond, ◌||◌, ℕ, eqb}
+use Rattle.std.specs.Prelude.{Bool, true, false, cond, ◌||◌, ℕ, eqb, Option, Some, None}
 use Rattle.profiles.specs.declared.fields.Profile.{Profile}
 use Rattle.profiles.specs.declared.fields.Profile.TheVariants.{Domain, Organization, Responder, Subordinate}
-use Rattle.profiles.specs.declared.fields.Asked.{Asked}
-use Rattle.profiles.specs.declared.fields.Asked.TheVariants.{For, Unknown}
 use Rattle.profiles.specs.declared.fields.Limit.{Limit}
 use Rattle.profiles.specs.declared.fields.Limit.TheVariants.{Days, Years}
 
 -- "1 server, domain validation; 2 server, organization validation; 3 delegated OCSP responder"; "source document 001 as profile 4": subordinate CA
-unfoldable pub asked_of : ℕ → Asked
+unfoldable pub asked_of : ℕ → Option Profile
 asked_of number =
-    cond (eqb number 1) (For Domain)
-    (cond (eqb number 2) (For Organization)
-    (cond (eqb number 3) (For Responder)
-    (cond (eqb number 4) (For Subordinate) Unknown)))
+    cond (eqb number 1) (Some Domain)
+    (cond (eqb number 2) (Some Organization)
+    (cond (eqb number 3) (Some Responder)
+    (cond (eqb number 4) (Some Subordinate) None)))
 
 abbrev pub profile_number : Profile → ℕ
 profile_number Domain = 1

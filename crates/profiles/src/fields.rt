@@ -11,22 +11,16 @@ pub enum Profile {
     Subordinate,
 }
 
-// What a profile's number asks for.
-#[derive(Clone, Copy)]
-pub enum Asked {
-    For(Profile),
-    Unknown,
-}
-
-pub fn profile_of(number: u8) -> Asked
+// The profile that a number asks for.
+pub fn profile_of(number: u8) -> Option<Profile>
     ensures { result ≡ asked_of number }
 {
     match number {
-        1 => Asked::For(Profile::Domain),
-        2 => Asked::For(Profile::Organization),
-        3 => Asked::For(Profile::Responder),
-        4 => Asked::For(Profile::Subordinate),
-        _ => Asked::Unknown,
+        1 => Some(Profile::Domain),
+        2 => Some(Profile::Organization),
+        3 => Some(Profile::Responder),
+        4 => Some(Profile::Subordinate),
+        _ => None,
     }
 }
 

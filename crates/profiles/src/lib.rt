@@ -12,7 +12,7 @@ pub use extensions::{
     Criticality, Mark, criticality_of, is_miscritical, is_out_of_place, is_unwanted, mark_of,
 };
 pub use fields::{
-    Asked, Limit, Profile, allows_attribute, limit_of, profile_of, takes_curves, takes_utf8,
+    Limit, Profile, allows_attribute, limit_of, profile_of, takes_curves, takes_utf8,
 };
 pub use judged::holds;
 pub use levels::{Level, level_number, level_of};

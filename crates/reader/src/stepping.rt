@@ -9,14 +9,14 @@ ghost use Rattle.reader.specs.Workings.Desk.{Linted};
 
 use crate::finding::{Found, Loss, find};
 use crate::gathering::gather;
-use lint::Answer;
+use lint::Refusal;
 
 #[derive(Clone, Copy)]
 pub struct Record {
     pub number: usize,
     pub profile: u8,
     pub length: usize,
-    pub answer: Answer,
+    pub answer: Result<usize, Refusal>,
 }
 
 #[derive(Clone, Copy)]

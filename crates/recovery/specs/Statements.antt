@@ -1,5 +1,5 @@
 -- Demands 2 and 3 on decks, each in one record.
-use Rattle.std.specs.Prelude.{List, ◌++◌, ◌≡◌, ℕ, ◌+◌, ◌*◌, ◌≤◌, ◌<◌, ◌^◌, length, take, drop}
+use Rattle.std.specs.Prelude.{List, ◌++◌, ◌≡◌, ℕ, ◌+◌, ◌*◌, ◌≤◌, ◌<◌, ◌^◌, length, take, drop, Ok}
 use Rattle.recovery.specs.Submitted.{Submitted, submitted_octets, AllWritable, written}
 use Rattle.recovery.specs.Spoiling.{Spoiled}
 use Rattle.recovery.specs.Expected.{handed_out, expected, all_handed_out, OneBehindTheOther}
@@ -7,7 +7,6 @@ use Rattle.octets.specs.Octets.{octet_at}
 use Rattle.lint.specs.Answers.{room_of}
 use Rattle.writer.specs.Answers.{write_answer, write_room}
 use Rattle.writer.specs.Cutting.{end_to_end}
-use Rattle.writer.specs.declared.writing.Placing.TheVariants.{Blocks}
 use Rattle.reader.specs.Runs.{blocks}
 use Rattle.reader.specs.Stepping.{Stepped}
 use Rattle.reader.specs.Taking.{TakenRecord}
@@ -39,7 +38,7 @@ pub record ReadAgain (number : ℕ) (s : Submitted) (deck : List ℕ) (position 
 abbrev pub ReadsBack : ℕ → Submitted → Type 0
 ReadsBack number s =
     (count position : ℕ) (room before after : List ℕ)
-    → write_answer number s.profile s.certificate s.issuer room ≡ Blocks count
+    → write_answer number s.profile s.certificate s.issuer room ≡ Ok count
     → length before ≡ 512 * position
     → number < 2 ^ 32
     → ReadAgain number s (before ++ (take (512 * count) (write_room number s.profile s.certificate s.issuer room) ++ after)) position

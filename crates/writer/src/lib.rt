@@ -5,4 +5,4 @@ mod reasons;
 mod writing;
 
 pub use reasons::{NotWritten, not_written_values};
-pub use writing::{Placing, placing_values, write_record};
+pub use writing::{placing_values, write_record};

@@ -1,11 +1,12 @@
 // Why a record is not written: refusals 1, 2, 3, 8 and 7 (document 01, "Refusals and their order"), and the paper's values of each.
 ghost use Rattle.std.specs.Prelude.{◌≡◌};
+ghost use Rattle.writer.specs.declared.reasons.NotWritten.TheVariants as NotWritten;
 ghost use Rattle.writer.specs.Values.{not_written_values};
 
 use lint::Inadmissible;
 use refusals::{ON_NEITHER, RECORD_NUMBER_ZERO, TOO_LITTLE_ROOM, Values, refused};
 
-#[derive(Clone, Copy)]
+#[derive(Clone, Copy, Debug, PartialEq, Eq)]
 pub enum NotWritten {
     // as the linter has it
     Inadmissible(Inadmissible),
@@ -13,6 +14,14 @@ pub enum NotWritten {
     NoNumber,
     // too little room
     NoRoom,
+}
+
+impl From<Inadmissible> for NotWritten {
+    ghost from_gives = { λ r reason. reason ≡ NotWritten.Inadmissible r };
+
+    fn from(r: Inadmissible) -> NotWritten {
+        NotWritten::Inadmissible(r)
+    }
 }
 
 pub fn not_written_values(r: NotWritten) -> Values

@@ -8,23 +8,15 @@ ghost use Rattle.writer.specs.Values.{placing_values};
 ghost use Rattle.writer.specs.Answers.{Written};
 
 use crate::reasons::{NotWritten, not_written_values};
-use lint::Admission;
 use refusals::{Values, unrefused};
 
-#[derive(Clone, Copy)]
-pub enum Placing {
-    // so many blocks
-    Blocks(usize),
-    Refused(NotWritten),
-}
-
 // The paper's number, side, place and count of blocks.
-pub fn placing_values(placing: Placing) -> Values
+pub fn placing_values(placing: Result<usize, NotWritten>) -> Values
     ensures { result ≡ placing_values placing }
 {
     match placing {
-        Placing::Blocks(count) => unrefused(count),
-        Placing::Refused(r) => not_written_values(r),
+        Ok(count) => unrefused(count),
+        Err(r) => not_written_values(r),
     }
 }
 
@@ -109,26 +101,24 @@ fn put_record(
     put_blocks(number, n, count, &desk, room);
 }
 
+// So many blocks, written to the room, or why there are none.
 pub fn write_record(
     number: u32,
     profile: u8,
     certificate: &[u8],
     issuer: &[u8],
     room: &mut [u8],
-) -> Placing
+) -> Result<usize, NotWritten>
     ensures { Written number profile certificate.now issuer.now room.old result room.new }
 {
-    let admission = lint::admit(certificate.len(), issuer.len(), profile);
-    if let Admission::Refused(r) = admission {
-        return Placing::Refused(NotWritten::Inadmissible(r));
-    }
+    lint::admit(certificate.len(), issuer.len(), profile)?;
     if number == 0 {
-        return Placing::Refused(NotWritten::NoNumber);
+        return Err(NotWritten::NoNumber);
     }
     let count = blocks::parts_of(3 + certificate.len() + issuer.len());
     if room.len() < 512 * count {
-        return Placing::Refused(NotWritten::NoRoom);
+        return Err(NotWritten::NoRoom);
     }
     put_record(number, profile, certificate, issuer, count, room);
-    Placing::Blocks(count)
+    Ok(count)
 }

@@ -7,6 +7,7 @@ use Prim.Native.Nat.{ℕ, ◌*◌, ◌<◌}
 use native.Mathlib.Omega.{arith}
 use lib.ListN.{length, drop}
 use lib.Seq.{drop_at}
+use Rattle.std.specs.Prelude.{Result, Ok, Err}
 use Rattle.demands.specs.Second.{rules_on, SaysBroken, ExactReport, Demand2}
 use Rattle.profiles.specs.Judged.{judged_by}
 use Rattle.profiles.specs.declared.fields.Profile.{Profile}
@@ -20,28 +21,25 @@ use Rattle.report.proofs.Laws.Passes.{filled_written, report_long}
 use Rattle.report.proofs.Laws.Order.{not_equal}
 use Rattle.rules.specs.Rules.{findings}
 use Rattle.rules.proofs.Laws.Findings.{finding_in, none_broken, findings_ordered, findings_levelled}
+use Rattle.lint.specs.declared.reasons.Refusal.{Refusal}
 use Rattle.lint.specs.Judging.{judgement_of}
 use Rattle.lint.specs.Answers.{answer_by, answer_of, room_of}
-use Rattle.lint.specs.declared.judging.Judgement.{Judgement}
-use Rattle.lint.specs.declared.judging.Judgement.TheVariants.{Accepted}
-use Rattle.lint.specs.declared.linting.Answer.TheVariants.{Report}
 use Rattle.lint.proofs.Laws.Accepted.{accepted_fits, accepted_asked}
 use Rattle.lint.proofs.Laws.Order.{findings_back}
 use Rattle.lint.proofs.Laws.Statements.{told_report, findings_counted}
 use Rattle.places.proofs.Laws.Theorem.{places}
 use Rattle.recovery.proofs.Laws.Back.{reads_back}
-use Rattle.lint.specs.declared.judging.Judgement.TheVariants as Judgements
 
 -- a report is given to what is accepted
-accepted_for : (certificate issuer : List ℕ) (profile : ℕ) (room : List ℕ) (n : ℕ) → answer_of certificate issuer profile room ≡ Report n
-    → (p : Profile) × (judgement_of certificate issuer profile ≡ Accepted p)
+accepted_for : (certificate issuer : List ℕ) (profile : ℕ) (room : List ℕ) (n : ℕ) → answer_of certificate issuer profile room ≡ Ok n
+    → (p : Profile) × (judgement_of certificate issuer profile ≡ Ok p)
 unfolding answer_of
 accepted_for certificate issuer profile room n told = go (judgement_of certificate issuer profile) refl told
   where
-    go : (j : Judgement) → judgement_of certificate issuer profile ≡ j → answer_by j certificate issuer room ≡ Report n
-        → (p : Profile) × (judgement_of certificate issuer profile ≡ Accepted p)
-    go (Judgements.Refused r) q e = let z : ◌≡◌ {A = ℕ} 0 1 = cc e in absurd (omega arith)
-    go (Accepted p) q e = (p, q)
+    go : (j : Result Profile Refusal) → judgement_of certificate issuer profile ≡ j → answer_by j certificate issuer room ≡ Ok n
+        → (p : Profile) × (judgement_of certificate issuer profile ≡ Ok p)
+    go (Err r) q e = let z : ◌≡◌ {A = ℕ} 0 1 = cc e in absurd (omega arith)
+    go (Ok p) q e = (p, q)
 
 -- no entries
 none : (n : ℕ) (es : List Entry) → n ≡ length es → (n ≡ 0) ↔ (es ≡ [])
@@ -52,7 +50,7 @@ none n es e = (λ z. empty_list es (sym e ∙ z), λ z. e ∙ ap length z)
     empty_list (x ∷ xs) z = absurd (omega (arith, z))
 
 module _ (p : Profile) (certificate issuer : List ℕ) (profile : ℕ) (room : List ℕ) (n : ℕ)
-    (j : judgement_of certificate issuer profile ≡ Accepted p) (told : answer_of certificate issuer profile room ≡ Report n) where
+    (j : judgement_of certificate issuer profile ≡ Ok p) (told : answer_of certificate issuer profile room ≡ Ok n) where
   abbrev es : List Entry
   es = findings p certificate issuer
 

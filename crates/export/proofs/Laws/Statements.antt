@@ -10,23 +10,22 @@ use Prim.Native.Nat.{ℕ, ◌+◌, ◌*◌, ◌^◌, ◌/◌, ◌%◌, ◌<◌}
 use native.Mathlib.Omega.{arith}
 use lib.ListN.{length}
 use borrow.Author.Tests.{ne_eqb, le-leb, lt-leb}
+use Rattle.std.specs.Prelude.{Result, Ok, Err}
 use Rattle.export.specs.Packing.{packed_refusal, packed_values, number_in, side_in, values_in}
 use Rattle.refusals.specs.Table.{refused, unrefused}
 use Rattle.refusals.specs.declared.table.Values.{Values}
 use Rattle.refusals.proofs.Laws.Table.{Tabled}
+use Rattle.lint.specs.declared.reasons.Refusal.{Refusal}
 use Rattle.lint.specs.Refusals.{refusal_values, answer_values}
 use Rattle.lint.specs.Values.{lint_values}
 use Rattle.lint.specs.Answers.{answer_of, room_of}
 use Rattle.lint.proofs.Laws.Bounds.{refusal_low, count_fits}
 use Rattle.lint.proofs.Laws.Values.{refusal_tabled, lint_values_lem}
+use Rattle.writer.specs.declared.reasons.NotWritten.{NotWritten}
 use Rattle.writer.specs.Values.{not_written_values, placing_values, write_values}
 use Rattle.writer.specs.Answers.{write_answer, write_room}
 use Rattle.writer.proofs.Laws.Answers.{taken_only, refused_nowhere}
 use Rattle.writer.proofs.Laws.Values.{not_written_tabled, write_values_lem}
-use Rattle.lint.specs.declared.linting.Answer as Linting
-use Rattle.lint.specs.declared.linting.Answer.TheVariants as Linted
-use Rattle.writer.specs.declared.writing.Placing as Writing
-use Rattle.writer.specs.declared.writing.Placing.TheVariants as Written
 
 -- its number gives these values back
 abbrev Back : Values → Type 0
@@ -74,18 +73,18 @@ pub lint_back : (certificate issuer : List ℕ) (profile : ℕ) (room : List ℕ
 lint_back certificate issuer profile room l =
     subst Back (lint_values_lem certificate issuer profile room) (go (answer_of certificate issuer profile room) refl)
   where
-    go : (answer : Linting.Answer) → answer_of certificate issuer profile room ≡ answer → Back (answer_values answer)
-    go (Linted.Report count) e = count_back count (omega (arith, count_fits certificate issuer profile room count e))
-    go (Linted.Refused r) e = tabled_back (refusal_values r) (refusal_tabled r) (refusal_low certificate issuer profile room r e)
+    go : (answer : Result ℕ Refusal) → answer_of certificate issuer profile room ≡ answer → Back (answer_values answer)
+    go (Ok count) e = count_back count (omega (arith, count_fits certificate issuer profile room count e))
+    go (Err r) e = tabled_back (refusal_values r) (refusal_tabled r) (refusal_low certificate issuer profile room r e)
 
 pub write_back : (number profile : ℕ) (certificate issuer room : List ℕ) → length room < 2 ^ 63
     → values_in (packed_values (write_values number profile certificate issuer room)) ≡ write_values number profile certificate issuer room
 write_back number profile certificate issuer room l =
     subst Back (write_values_lem number profile certificate issuer room) (go (write_answer number profile certificate issuer room) refl)
   where
-    go : (answer : Writing.Placing) → write_answer number profile certificate issuer room ≡ answer → Back (placing_values answer)
-    go (Written.Blocks count) e = count_back count (omega (arith, (taken_only number profile certificate issuer room count e).fitting))
-    go (Written.Refused r) e = tabled_back (not_written_values r) (not_written_tabled r) (omega (arith, refused_nowhere r))
+    go : (answer : Result ℕ NotWritten) → write_answer number profile certificate issuer room ≡ answer → Back (placing_values answer)
+    go (Ok count) e = count_back count (omega (arith, (taken_only number profile certificate issuer room count e).fitting))
+    go (Err r) e = tabled_back (not_written_values r) (not_written_tabled r) (omega (arith, refused_nowhere r))
 
 -- ---- one answer
 

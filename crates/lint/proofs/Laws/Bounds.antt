@@ -12,8 +12,10 @@ use native.Mathlib.Nat.{lt_of_lt_of_le}
 use native.Mathlib.Omega.{arith}
 use lib.ListN.{length}
 use borrow.Author.Tests.{leb-true}
+use Rattle.std.specs.Prelude.{Result, Ok, Err}
+use Rattle.std.specs.Result.{result_and}
 use Rattle.lint.specs.Refusals.{inadmissible_values, refusal_values}
-use Rattle.lint.specs.Judging.{by_soundness, side_judgement, or_else, both_sides, admission_of, once_admitted, judgement_of}
+use Rattle.lint.specs.Judging.{by_soundness, side_judgement, both_sides, admission_of, once_admitted, judgement_of}
 use Rattle.lint.specs.Answers.{answer_to, answer_by, answer_of}
 use Rattle.lint.specs.Statements.{side_octets, StartWithin, WithinSide}
 use Rattle.lint.specs.declared.reasons.Side.{Side}
@@ -21,10 +23,6 @@ use Rattle.lint.specs.declared.reasons.Side.TheVariants.{Certificate, Issuer}
 use Rattle.lint.specs.declared.reasons.Inadmissible.{Inadmissible}
 use Rattle.lint.specs.declared.reasons.Inadmissible.TheVariants.{CertificateLength, IssuerLength, UnknownProfile}
 use Rattle.lint.specs.declared.reasons.Refusal.{Refusal}
-use Rattle.lint.specs.declared.judging.Admission.{Admission}
-use Rattle.lint.specs.declared.judging.Judgement.{Judgement}
-use Rattle.lint.specs.declared.linting.Answer.{Answer}
-use Rattle.lint.specs.declared.linting.Answer.TheVariants.{Report, Refused}
 use Rattle.der.specs.Soundness.{der_soundness, soundness_place}
 use Rattle.der.specs.declared.walk.Soundness.{Soundness}
 use Rattle.der.specs.declared.walk.Soundness.TheVariants.{Sound, Unsound, Unordered}
@@ -42,8 +40,6 @@ use Rattle.report.specs.declared.sink.Entry.{Entry}
 use Rattle.rules.specs.Rules.{findings}
 use Rattle.lint.proofs.Laws.Accepted.{admitted_certificate, admitted_issuer}
 use Rattle.lint.specs.declared.reasons.Refusal.TheVariants as Refusals
-use Rattle.lint.specs.declared.judging.Admission.TheVariants as Admissions
-use Rattle.lint.specs.declared.judging.Judgement.TheVariants as Judgements
 
 -- ---- refusals 1, 2 and 3
 
@@ -59,9 +55,9 @@ module _ (certificate issuer : List ℕ) where
     within : WithinSide certificate issuer r
     low : (refusal_values r).place < 8192
 
-  abbrev PlacedBy : Judgement → Type 0
-  PlacedBy (Judgements.Refused r) = Placed r
-  PlacedBy (Judgements.Accepted p) = Unit {0}
+  abbrev PlacedBy : Result Profile Refusal → Type 0
+  PlacedBy (Err r) = Placed r
+  PlacedBy (Ok p) = Unit {0}
 
   -- 4, 5 and 6: the outermost element of sound octets fills them
   module _ (p : Profile) (side : Side) (l : 1 ≤ length (side_octets certificate issuer side)) (m : length (side_octets certificate issuer side) ≤ 8192) where
@@ -88,9 +84,9 @@ module _ (certificate issuer : List ℕ) where
         go (Unsound place) v f g e = record { within = f; low = low f }
         go (Unordered place) v f g e = record { within = f; low = low f }
 
-  first_placed : (a b : Judgement) → PlacedBy a → PlacedBy b → PlacedBy (or_else a b)
-  first_placed (Judgements.Refused r) b k l = k
-  first_placed (Judgements.Accepted p) b k l = l
+  first_placed : (a b : Result Profile Refusal) → PlacedBy a → PlacedBy b → PlacedBy (result_and a b)
+  first_placed (Err r) b k l = k
+  first_placed (Ok p) b k l = l
 
   both_placed : (p : Profile) → (1 ≤ length certificate) × (length certificate ≤ 8192) → (1 ≤ length issuer) × (length issuer ≤ 8192)
       → PlacedBy (both_sides p certificate issuer)
@@ -103,31 +99,31 @@ module _ (certificate issuer : List ℕ) where
   unfolding judgement_of
   judgement_placed profile = go (admission_of (length certificate) (length issuer) profile) refl
     where
-      go : (a : Admission) → admission_of (length certificate) (length issuer) profile ≡ a → PlacedBy (once_admitted a certificate issuer)
-      go (Admissions.Refused r) e = record { within = tt; low = omega (arith, inadmissible_nowhere r) }
-      go (Admissions.Admitted p) e = both_placed p (admitted_certificate _ _ _ p e) (admitted_issuer _ _ _ p e)
+      go : (a : Result Profile Inadmissible) → admission_of (length certificate) (length issuer) profile ≡ a → PlacedBy (once_admitted a certificate issuer)
+      go (Err r) e = record { within = tt; low = omega (arith, inadmissible_nowhere r) }
+      go (Ok p) e = both_placed p (admitted_certificate _ _ _ p e) (admitted_issuer _ _ _ p e)
 
-  abbrev PlacedIn : Answer → Type 0
-  PlacedIn (Refused r) = Placed r
-  PlacedIn (Report n) = Unit {0}
+  abbrev PlacedIn : Result ℕ Refusal → Type 0
+  PlacedIn (Err r) = Placed r
+  PlacedIn (Ok n) = Unit {0}
 
   -- 7
   answer_placed : (es : List Entry) (room : List ℕ) → PlacedIn (answer_to es room)
   unfolding answer_to
   answer_placed es room = go (enough_room es room)
     where
-      go : (b : Bool) → PlacedIn (cond b (Report (length es)) (Refused Refusals.NoRoom))
+      go : (b : Bool) → PlacedIn (cond b (Ok (length es)) (Err Refusals.NoRoom))
       go true = tt
       go false = record { within = tt; low = omega arith }
 
-  module _ (profile : ℕ) (room : List ℕ) (r : Refusal) (e : answer_of certificate issuer profile room ≡ Refused r) where
+  module _ (profile : ℕ) (room : List ℕ) (r : Refusal) (e : answer_of certificate issuer profile room ≡ Err r) where
     placed : Placed r
     unfolding answer_of
     placed = subst PlacedIn e (go (judgement_of certificate issuer profile) (judgement_placed profile))
       where
-        go : (j : Judgement) → PlacedBy j → PlacedIn (answer_by j certificate issuer room)
-        go (Judgements.Refused q) k = k
-        go (Judgements.Accepted p) k = answer_placed (findings p certificate issuer) room
+        go : (j : Result Profile Refusal) → PlacedBy j → PlacedIn (answer_by j certificate issuer room)
+        go (Err q) k = k
+        go (Ok p) k = answer_placed (findings p certificate issuer) room
 
     pub refusal_inside : WithinSide certificate issuer r
     refusal_inside = placed.within
@@ -137,19 +133,19 @@ module _ (certificate issuer : List ℕ) where
 
 -- ---- findings
 
-abbrev FitsIn : ℕ → Answer → Type 0
-FitsIn room (Report n) = width * n ≤ room
-FitsIn room (Refused r) = Unit {0}
+abbrev FitsIn : ℕ → Result ℕ Refusal → Type 0
+FitsIn room (Ok n) = width * n ≤ room
+FitsIn room (Err r) = Unit {0}
 
-pub count_fits : (certificate issuer : List ℕ) (profile : ℕ) (room : List ℕ) (n : ℕ) → answer_of certificate issuer profile room ≡ Report n
+pub count_fits : (certificate issuer : List ℕ) (profile : ℕ) (room : List ℕ) (n : ℕ) → answer_of certificate issuer profile room ≡ Ok n
     → width * n ≤ length room
 unfolding answer_of answer_to
 count_fits certificate issuer profile room n e = subst (FitsIn (length room)) e (go (judgement_of certificate issuer profile))
   where
-    counted : (es : List Entry) (b : Bool) → enough_room es room ≡ b → FitsIn (length room) (cond b (Report (length es)) (Refused Refusals.NoRoom))
+    counted : (es : List Entry) (b : Bool) → enough_room es room ≡ b → FitsIn (length room) (cond b (Ok (length es)) (Err Refusals.NoRoom))
     counted es true t = leb-true _ _ t
     counted es false t = tt
 
-    go : (j : Judgement) → FitsIn (length room) (answer_by j certificate issuer room)
-    go (Judgements.Refused r) = tt
-    go (Judgements.Accepted p) = counted (findings p certificate issuer) (enough_room (findings p certificate issuer) room) refl
+    go : (j : Result Profile Refusal) → FitsIn (length room) (answer_by j certificate issuer room)
+    go (Err r) = tt
+    go (Ok p) = counted (findings p certificate issuer) (enough_room (findings p certificate issuer) room) refl

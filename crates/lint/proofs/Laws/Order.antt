@@ -7,6 +7,7 @@ use mathlib.Core.Bool.{true}
 use Prim.Native.Nat.{ℕ}
 use native.Mathlib.Omega.{arith}
 use lib.ListN.{length}
+use Rattle.std.specs.Prelude.{Ok}
 use Rattle.profiles.specs.declared.fields.Profile.{Profile}
 use Rattle.report.specs.Answers.{enough_room, filled}
 use Rattle.report.specs.Entries.{decode}
@@ -14,11 +15,10 @@ use Rattle.report.proofs.Laws.Reading.{report_back}
 use Rattle.rules.specs.Rules.{findings}
 use Rattle.rules.proofs.Laws.Findings.{findings_ordered, findings_inside, findings_levelled}
 use Rattle.lint.specs.Judging.{judgement_of}
-use Rattle.lint.specs.declared.judging.Judgement.TheVariants.{Accepted}
 use Rattle.lint.proofs.Laws.Accepted.{accepted_fits, accepted_short}
 
 -- in room that suffices
-pub findings_back : (p : Profile) (s issuer : List ℕ) (profile : ℕ) (room : List ℕ) → judgement_of s issuer profile ≡ Accepted p
+pub findings_back : (p : Profile) (s issuer : List ℕ) (profile : ℕ) (room : List ℕ) → judgement_of s issuer profile ≡ Ok p
     → enough_room (findings p s issuer) room ≡ true → decode (length (findings p s issuer)) (filled (findings p s issuer) room) ≡ findings p s issuer
 findings_back p s issuer profile room e f =
     let short = accepted_short s issuer profile p e in

@@ -11,6 +11,8 @@ use mathlib.Core.List.{List}
 use mathlib.Core.Bool.{Bool, true, false, cond}
 use Prim.Native.Nat.{ℕ}
 use lib.ListN.{length}
+use Rattle.std.specs.Prelude.{Result, Ok, Err, Some}
+use Rattle.lint.specs.declared.reasons.Inadmissible.{Inadmissible}
 use Rattle.lint.specs.Judging.{side_length_ok, side_judgement, both_sides, for_profile, admission_of, once_admitted, judgement_of}
 use Rattle.lint.specs.Answers.{answer_to, answer_by, room_by, answer_of, room_of, Answered}
 use Rattle.lint.specs.Statements.{Acceptable}
@@ -18,36 +20,29 @@ use Rattle.lint.specs.declared.reasons.Side.{Side}
 use Rattle.lint.specs.declared.reasons.Side.TheVariants.{Certificate, Issuer}
 use Rattle.lint.specs.declared.reasons.Inadmissible.TheVariants.{CertificateLength}
 use Rattle.lint.specs.declared.reasons.Refusal.{Refusal}
-use Rattle.lint.specs.declared.judging.Admission.{Admission}
-use Rattle.lint.specs.declared.judging.Judgement.{Judgement}
-use Rattle.lint.specs.declared.linting.Answer.{Answer}
-use Rattle.lint.specs.declared.linting.Answer.TheVariants.{Report, Refused}
 use Rattle.profiles.specs.Fields.{asked_of}
 use Rattle.profiles.specs.declared.fields.Profile.{Profile}
-use Rattle.profiles.specs.declared.fields.Asked.TheVariants.{For}
 use Rattle.report.specs.Answers.{enough_room, filled}
 use Rattle.report.specs.declared.sink.Entry.{Entry}
 use Rattle.report.proofs.Laws.Passes.{filled_short}
 use Rattle.certificate.specs.Issuer.{known_of}
 use Rattle.rules.specs.Rules.{findings_for, findings}
 use Rattle.lint.specs.declared.reasons.Refusal.TheVariants as Refusals
-use Rattle.lint.specs.declared.judging.Admission.TheVariants as Admissions
-use Rattle.lint.specs.declared.judging.Judgement.TheVariants as Judgements
 
 -- ---- S11
 
-pub one_answer : {certificate issuer room last last' : List ℕ} {profile : ℕ} {r r' : Answer}
+pub one_answer : {certificate issuer room last last' : List ℕ} {profile : ℕ} {r r' : Result ℕ Refusal}
     → Answered certificate issuer profile room r last → Answered certificate issuer profile room r' last' → (r ≡ r') × (last ≡ last')
 one_answer a b = (a.told ∙ sym b.told, a.bytes ∙ sym b.bytes)
 
 -- ---- acceptable sides
 
-side_accepted : (p : Profile) (side : Side) (s : List ℕ) → Acceptable s → side_judgement p side s ≡ Judgements.Accepted p
+side_accepted : (p : Profile) (side : Side) (s : List ℕ) → Acceptable s → side_judgement p side s ≡ Ok p
 unfolding side_judgement
 side_accepted p side s a = rw (a.sound, a.fits)
 
 pub accepted : (p : Profile) (certificate issuer : List ℕ) (profile : ℕ) → Acceptable certificate → Acceptable issuer
-    → asked_of profile ≡ For p → judgement_of certificate issuer profile ≡ Judgements.Accepted p
+    → asked_of profile ≡ Some p → judgement_of certificate issuer profile ≡ Ok p
 unfolding judgement_of admission_of both_sides
 accepted p certificate issuer profile a b e =
     rw (a.sized, b.sized, e, side_accepted p Certificate certificate a, side_accepted p Issuer issuer b)
@@ -59,18 +54,18 @@ same_judgement : (certificate i j : List ℕ) (profile : ℕ) → Acceptable i �
 unfolding judgement_of admission_of both_sides
 same_judgement certificate i j profile a b =
     rw (a.sized, b.sized) (go (cond (side_length_ok (length certificate)) (for_profile (asked_of profile))
-    (Admissions.Refused CertificateLength)))
+    (Err CertificateLength)))
   where
-    go : (admission : Admission) → once_admitted admission certificate i ≡ once_admitted admission certificate j
-    go (Admissions.Refused r) = refl
-    go (Admissions.Admitted p) = rw (side_accepted p Issuer i a, side_accepted p Issuer j b)
+    go : (admission : Result Profile Inadmissible) → once_admitted admission certificate i ≡ once_admitted admission certificate j
+    go (Err r) = refl
+    go (Ok p) = rw (side_accepted p Issuer i a, side_accepted p Issuer j b)
 
-same_by_lem : (judgement : Judgement) (certificate i j room : List ℕ) → known_of i ≡ known_of j
+same_by_lem : (judgement : Result Profile Refusal) (certificate i j room : List ℕ) → known_of i ≡ known_of j
     → (answer_by judgement certificate i room ≡ answer_by judgement certificate j room) ×
     (room_by judgement certificate i room ≡ room_by judgement certificate j room)
 unfolding findings
-same_by_lem (Judgements.Refused r) certificate i j room e = (refl, refl)
-same_by_lem (Judgements.Accepted p) certificate i j room e =
+same_by_lem (Err r) certificate i j room e = (refl, refl)
+same_by_lem (Ok p) certificate i j room e =
     (ap (λ k. answer_to (findings_for p certificate k) room) e, ap (λ k. filled (findings_for p certificate k) room) e)
 
 -- "two accepted issuers that agree in these give the same answer"
@@ -83,17 +78,17 @@ same_answer certificate i j profile room a b e =
 -- ---- S10
 
 -- a report is given where the room suffices, and counts the findings
-pub told_report : (es : List Entry) (room : List ℕ) (n : ℕ) → answer_to es room ≡ Report n → (enough_room es room ≡ true) × (n ≡ length es)
+pub told_report : (es : List Entry) (room : List ℕ) (n : ℕ) → answer_to es room ≡ Ok n → (enough_room es room ≡ true) × (n ≡ length es)
 unfolding answer_to
 told_report es room n = go (enough_room es room)
   where
-    go : (b : Bool) → cond b (Report (length es)) (Refused Refusals.NoRoom) ≡ Report n → (b ≡ true) × (n ≡ length es)
+    go : (b : Bool) → cond b (Ok (length es)) (Err Refusals.NoRoom) ≡ Ok n → (b ≡ true) × (n ≡ length es)
     go true e = (refl, cc)
     go false e = (cc, cc)
 
 -- the count of an answer is the number of findings
 pub findings_counted : (p : Profile) (certificate issuer : List ℕ) (profile : ℕ) (room : List ℕ) (n : ℕ)
-    → judgement_of certificate issuer profile ≡ Judgements.Accepted p → answer_of certificate issuer profile room ≡ Report n
+    → judgement_of certificate issuer profile ≡ Ok p → answer_of certificate issuer profile room ≡ Ok n
     → n ≡ length (findings p certificate issuer)
 unfolding answer_of
 findings_counted p certificate issuer profile room n j e =
@@ -101,21 +96,21 @@ findings_counted p certificate issuer profile room n j e =
 
 -- ---- refusals
 
-refused_to : (es : List Entry) (room : List ℕ) (r : Refusal) → answer_to es room ≡ Refused r → filled es room ≡ room
+refused_to : (es : List Entry) (room : List ℕ) (r : Refusal) → answer_to es room ≡ Err r → filled es room ≡ room
 unfolding answer_to
 refused_to es room r = go (enough_room es room) refl
   where
-    go : (b : Bool) → enough_room es room ≡ b → cond b (Report (length es)) (Refused Refusals.NoRoom) ≡ Refused r → filled es room ≡ room
+    go : (b : Bool) → enough_room es room ≡ b → cond b (Ok (length es)) (Err Refusals.NoRoom) ≡ Err r → filled es room ≡ room
     go true f e = cc
     go false f e = filled_short es room f
 
-refused_by : (judgement : Judgement) (certificate issuer room : List ℕ) (r : Refusal)
-    → answer_by judgement certificate issuer room ≡ Refused r → room_by judgement certificate issuer room ≡ room
-refused_by (Judgements.Refused q) certificate issuer room r e = refl
-refused_by (Judgements.Accepted p) certificate issuer room r e = refused_to (findings p certificate issuer) room r e
+refused_by : (judgement : Result Profile Refusal) (certificate issuer room : List ℕ) (r : Refusal)
+    → answer_by judgement certificate issuer room ≡ Err r → room_by judgement certificate issuer room ≡ room
+refused_by (Err q) certificate issuer room r e = refl
+refused_by (Ok p) certificate issuer room r e = refused_to (findings p certificate issuer) room r e
 
 -- "lent memory unchanged"
 pub room_kept : (certificate issuer : List ℕ) (profile : ℕ) (room : List ℕ) (r : Refusal)
-    → answer_of certificate issuer profile room ≡ Refused r → room_of certificate issuer profile room ≡ room
+    → answer_of certificate issuer profile room ≡ Err r → room_of certificate issuer profile room ≡ room
 unfolding answer_of room_of
 room_kept certificate issuer profile room r e = refused_by (judgement_of certificate issuer profile) certificate issuer room r e

@@ -8,14 +8,13 @@ use mathlib.Core.List.{List, [], ◌∷◌, ◌++◌, append_assoc, append-nil}
 use Prim.Native.Nat.{ℕ, suc, ◌+◌, ◌≤◌}
 use native.Mathlib.Numerals.{add-one}
 use native.Mathlib.Omega.{arith}
+use Rattle.std.specs.Prelude.{Result, Ok, Err}
 use Rattle.listing.specs.Lines.{finding_line, record_line}
 use Rattle.listing.specs.Listing.{finding_lines, reported_entries, record_lines}
 use Rattle.texts.specs.Putting.{Spelled}
 use Rattle.report.specs.Entries.{entry_of, decode}
 use Rattle.report.specs.declared.sink.Entry.{Entry}
 use Rattle.lint.specs.declared.reasons.Refusal.{Refusal}
-use Rattle.lint.specs.declared.linting.Answer.{Answer}
-use Rattle.lint.specs.declared.linting.Answer.TheVariants.{Report, Refused}
 use Rattle.reader.specs.declared.stepping.Record.{Record}
 use Rattle.texts.proofs.Laws.Putting.{put_nothing, ◌⨾◌}
 use Rattle.report.proofs.Laws.Reading.{decode_none, decode_next}
@@ -46,12 +45,12 @@ all_findings s {k} {count} {n} {m} {x} {y} h l p =
     subst (λ (i : ℕ). Spelled (finding_lines (decode i s)) n x m y) e p
 
 module _ (r : Record) (s : List ℕ) {n m : ℕ} {x y : List ℕ} where
-  pub reported_lines : {count last : ℕ} {z : List ℕ} → r.answer ≡ Report count
+  pub reported_lines : {count last : ℕ} {z : List ℕ} → r.answer ≡ Ok count
       → Spelled (record_line r) n x m y → Spelled (finding_lines (decode count s)) m y last z → Spelled (record_lines r s) n x last z
   unfolding record_lines
   reported_lines {last = last} {z = z} e p q =
-      subst (λ (a : Answer). Spelled (record_line r ++ finding_lines (reported_entries a s)) n x last z) (sym e) (p ⨾ q)
+      subst (λ (a : Result ℕ Refusal). Spelled (record_line r ++ finding_lines (reported_entries a s)) n x last z) (sym e) (p ⨾ q)
 
-  pub refused_lines : {refusal : Refusal} → r.answer ≡ Refused refusal → Spelled (record_line r) n x m y → Spelled (record_lines r s) n x m y
+  pub refused_lines : {refusal : Refusal} → r.answer ≡ Err refusal → Spelled (record_line r) n x m y → Spelled (record_lines r s) n x m y
   unfolding record_lines finding_lines
-  refused_lines e p = subst (λ (a : Answer). Spelled (record_line r ++ finding_lines (reported_entries a s)) n x m y) (sym e) (p ⨾ put_nothing m y)
+  refused_lines e p = subst (λ (a : Result ℕ Refusal). Spelled (record_line r ++ finding_lines (reported_entries a s)) n x m y) (sym e) (p ⨾ put_nothing m y)

@@ -10,6 +10,7 @@ use Prim.Native.Nat.{ℕ, zero, suc, ◌+◌, ◌*◌, ◌^◌, ◌≤◌, ◌<�
 use native.Mathlib.Omega.{arith}
 use lib.ListN.{length, length-append}
 use lib.Dec.{ltb, eqb}
+use Rattle.std.specs.Prelude.{Result, Ok, Err}
 use Rattle.listing.specs.Lines.{level_word, level_text, finding_line, refusal_text, answer_text, record_line, lost_line, total_line, too_long_line}
 use Rattle.listing.specs.Filling.{finding_space}
 use Rattle.listing.specs.Listing.{finding_lines, reported_entries, record_lines, item_lines}
@@ -19,12 +20,11 @@ use Rattle.profiles.specs.Levels.{level_number}
 use Rattle.profiles.specs.declared.levels.Level.TheVariants.{Must, Should}
 use Rattle.report.specs.Entries.{width, entry_of, decode}
 use Rattle.report.specs.declared.sink.Entry.{Entry}
+use Rattle.lint.specs.declared.reasons.Refusal.{Refusal}
 use Rattle.lint.specs.Refusals.{refusal_values}
 use Rattle.lint.specs.Answers.{answer_of}
 use Rattle.lint.proofs.Laws.Bounds.{count_fits}
 use Rattle.lint.proofs.Laws.Values.{refusal_tabled}
-use Rattle.lint.specs.declared.linting.Answer.{Answer}
-use Rattle.lint.specs.declared.linting.Answer.TheVariants.{Report, Refused}
 use Rattle.reader.specs.declared.finding.Loss.{Loss}
 use Rattle.reader.specs.declared.finding.Loss.TheVariants.{Short, Unsound, Stray}
 use Rattle.blocks.specs.Record.{profile_in, certificate_octets, issuer_octets}
@@ -74,14 +74,14 @@ too_long_long = refl
 -- ---- a record's line
 
 -- the number in an answer: how many findings, or a refusal's place
-abbrev pub number_in : Answer → ℕ
-number_in (Report count) = count
-number_in (Refused r) = (refusal_values r).place
+abbrev pub number_in : Result ℕ Refusal → ℕ
+number_in (Ok count) = count
+number_in (Err r) = (refusal_values r).place
 
-answer_long : (a : Answer) → number_in a < 2 ^ 64 → length (answer_text a) ≤ 41
+answer_long : (a : Result ℕ Refusal) → number_in a < 2 ^ 64 → length (answer_text a) ≤ 41
 unfolding refusal_text word
-answer_long (Report count) h = simp length-append (omega (arith, wide_long count h))
-answer_long (Refused r) h =
+answer_long (Ok count) h = simp length-append (omega (arith, wide_long count h))
+answer_long (Err r) h =
     let a = decimal_long (refusal_values r).number 1 (omega (arith, (refusal_tabled r).number)) (omega arith) in
     let b = decimal_long (refusal_values r).side 1 (omega (arith, (refusal_tabled r).side)) (omega arith) in
     simp length-append (omega (arith, a, b, wide_long (refusal_values r).place h))
@@ -103,9 +103,9 @@ findings_long (suc k) s o =
     rw (findings_next s k, length-append (finding_lines (decode k s)) (finding_line (entry_of s k))) (omega (arith, one, findings_long k s o))
 
 -- how many findings an answer counts, and an item
-abbrev pub count_of : Answer → ℕ
-count_of (Report count) = count
-count_of (Refused r) = 0
+abbrev pub count_of : Result ℕ Refusal → ℕ
+count_of (Ok count) = count
+count_of (Err r) = 0
 
 abbrev pub count_in : Item → ℕ
 count_in (Items.Record r) = count_of r.answer
@@ -118,10 +118,10 @@ Held (Items.Record r) = (r.number < 2 ^ 64) × (r.profile < 256) × (number_in r
 Held (Items.Lost loss) = Unit {0}
 Held Items.End = Unit {0}
 
-entries_long : (a : Answer) (s : List ℕ) → Octets s → length (finding_lines (reported_entries a s)) ≤ finding_space * count_of a
+entries_long : (a : Result ℕ Refusal) (s : List ℕ) → Octets s → length (finding_lines (reported_entries a s)) ≤ finding_space * count_of a
 unfolding finding_lines
-entries_long (Report count) s o = findings_long count s o
-entries_long (Refused r) s o = omega arith
+entries_long (Ok count) s o = findings_long count s o
+entries_long (Err r) s o = omega arith
 
 pub item_long : (position : ℕ) (item : Item) (s : List ℕ) → position < 2 ^ 64 → Held item → Octets s
     → length (item_lines position item s) ≤ 81 + finding_space * count_in item
@@ -138,9 +138,9 @@ item_long position Items.End s h k o = omega arith
 answer_fits : (certificate issuer : List ℕ) (profile : ℕ) (room : List ℕ) → width * count_of (answer_of certificate issuer profile room) ≤ length room
 answer_fits certificate issuer profile room = go (answer_of certificate issuer profile room) refl
   where
-    go : (a : Answer) → answer_of certificate issuer profile room ≡ a → width * count_of a ≤ length room
-    go (Report count) e = count_fits certificate issuer profile room count e
-    go (Refused r) e = omega arith
+    go : (a : Result ℕ Refusal) → answer_of certificate issuer profile room ≡ a → width * count_of a ≤ length room
+    go (Ok count) e = count_fits certificate issuer profile room count e
+    go (Err r) e = omega arith
 
 event_fits : (room : List ℕ) (e : Event) → width * count_in (item_of room e) ≤ length room
 event_fits room (record_at position number p) = answer_fits (certificate_octets p) (issuer_octets p) (profile_in p) room

@@ -12,6 +12,7 @@ use mathlib.Core.Bool.{true}
 use Prim.Native.Nat.{ℕ, ◌≤◌, ◌<◌}
 use lib.ListN.{length, length-replicate}
 use borrow.Author.Tests.{le-leb, lt-leb}
+use Rattle.std.specs.Prelude.{Result, Ok, Err}
 use Rattle.listing.specs.Lines.{level_word, level_text, record_line, total_line, too_long_line}
 use Rattle.listing.specs.Listing.{finding_lines, reported_entries, record_lines, item_lines, lines_of, listing_of, program_room, printed}
 use Rattle.texts.specs.Texts.{word}
@@ -25,12 +26,10 @@ use Rattle.profiles.specs.declared.levels.Level.{Level}
 use Rattle.profiles.specs.declared.levels.Level.TheVariants.{Must, Should}
 use Rattle.rules.specs.Rules.{findings}
 use Rattle.rules.proofs.Laws.Findings.{findings_levelled}
+use Rattle.lint.specs.declared.reasons.Refusal.{Refusal}
 use Rattle.lint.specs.Judging.{judgement_of}
 use Rattle.lint.specs.Answers.{answer_to, answer_of, room_of, report_of}
-use Rattle.lint.specs.declared.judging.Judgement.TheVariants.{Accepted}
 use Rattle.lint.proofs.Laws.Order.{findings_back}
-use Rattle.lint.specs.declared.linting.Answer.{Answer}
-use Rattle.lint.specs.declared.linting.Answer.TheVariants.{Report, Refused}
 use Rattle.reader.specs.Runs.{blocks}
 use Rattle.reader.specs.Events.{Event, events}
 use Rattle.reader.specs.Counting.{tally_of}
@@ -40,9 +39,9 @@ use Rattle.reader.proofs.Laws.Walking.{same_handed}
 use Rattle.report.proofs.Laws.Reading.{decode_take}
 use Rattle.reader.specs.declared.stepping.Item.TheVariants as Items
 
-entries_room : (a : Answer) (room : List ℕ) → reported_entries a (report_of a room) ≡ reported_entries a room
-entries_room (Report count) room = decode_take count room
-entries_room (Refused r) room = refl
+entries_room : (a : Result ℕ Refusal) (room : List ℕ) → reported_entries a (report_of a room) ≡ reported_entries a room
+entries_room (Ok count) room = decode_take count room
+entries_room (Err r) room = refl
 
 pub room_lines : (position : ℕ) (item : Item) (room : List ℕ) → item_lines position item room ≡ item_lines position item (report_in item room)
 unfolding record_lines
@@ -80,7 +79,7 @@ level_word_lem Must = refl
 level_word_lem Should = refl
 
 module _ (p : Profile) (certificate issuer room : List ℕ) (profile : ℕ)
-    (j : judgement_of certificate issuer profile ≡ Accepted p) (f : enough_room (findings p certificate issuer) room ≡ true) where
+    (j : judgement_of certificate issuer profile ≡ Ok p) (f : enough_room (findings p certificate issuer) room ≡ true) where
   pub found_entries : reported_entries (answer_of certificate issuer profile room) (room_of certificate issuer profile room) ≡ findings p certificate issuer
   unfolding answer_of room_of answer_to
   found_entries = rw (j, f) (findings_back p certificate issuer profile room j f)

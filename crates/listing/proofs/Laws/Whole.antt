@@ -11,6 +11,7 @@ use Prim.Native.Nat.{ℕ, ◌*◌, ◌^◌, ◌≤◌, ◌<◌}
 use native.Mathlib.Omega.{arith}
 use lib.ListN.{length}
 use borrow.Author.Tests.{lt-ltb, le-ltb}
+use Rattle.std.specs.Prelude.{Result, Ok, Err}
 use Rattle.listing.specs.Lines.{total_line}
 use Rattle.listing.specs.Listing.{item_lines}
 use Rattle.listing.specs.Filling.{item_space}
@@ -18,10 +19,9 @@ use Rattle.octets.specs.Octets.{Octets}
 use Rattle.octets.specs.Numbers.{largest}
 use Rattle.blocks.specs.Record.{profile_in, certificate_octets, issuer_octets}
 use Rattle.blocks.proofs.Laws.Logic.{below_or_not}
+use Rattle.lint.specs.declared.reasons.Refusal.{Refusal}
 use Rattle.lint.specs.Answers.{answer_of}
 use Rattle.lint.proofs.Laws.Bounds.{count_fits, refusal_low}
-use Rattle.lint.specs.declared.linting.Answer.{Answer}
-use Rattle.lint.specs.declared.linting.Answer.TheVariants.{Report, Refused}
 use Rattle.reader.specs.Runs.{from, starts, record_from}
 use Rattle.reader.specs.Events.{event_if}
 use Rattle.reader.specs.Stepping.{item_of, item_at}
@@ -31,9 +31,9 @@ use Rattle.listing.proofs.Laws.Lines.{number_in, Held, item_long, item_fits, tot
 answer_held : (certificate issuer : List ℕ) (profile : ℕ) (room : List ℕ) → length room ≤ 65536 → number_in (answer_of certificate issuer profile room) < 2 ^ 64
 answer_held certificate issuer profile room h = go (answer_of certificate issuer profile room) refl
   where
-    go : (a : Answer) → answer_of certificate issuer profile room ≡ a → number_in a < 2 ^ 64
-    go (Report count) e = omega (arith, count_fits certificate issuer profile room count e)
-    go (Refused r) e = omega (arith, refusal_low certificate issuer profile room r e)
+    go : (a : Result ℕ Refusal) → answer_of certificate issuer profile room ≡ a → number_in a < 2 ^ 64
+    go (Ok count) e = omega (arith, count_fits certificate issuer profile room count e)
+    go (Err r) e = omega (arith, refusal_low certificate issuer profile room r e)
 
 module _ (deck : List ℕ) (o : Octets deck) (position : ℕ) (room : List ℕ) (h : length room ≤ 65536) where
   event_held : 512 * position < length deck → (t : Bool) → Held (item_of room (event_if t position (from deck position)))

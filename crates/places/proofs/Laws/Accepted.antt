@@ -6,37 +6,36 @@ use mathlib.Core.List.{List}
 use Prim.Native.Nat.{ℕ}
 use native.Mathlib.Omega.{arith}
 use lib.ListN.{length}
+use Rattle.std.specs.Prelude.{Result, Ok, Err}
+use Rattle.std.specs.Result.{result_and}
 use Rattle.der.specs.Soundness.{der_soundness}
 use Rattle.der.specs.declared.walk.Soundness.{Soundness}
 use Rattle.der.specs.declared.walk.Soundness.TheVariants.{Sound, Unsound, Unordered}
 use Rattle.asn.specs.Answers.{certificate_verdict}
 use Rattle.asn.specs.declared.fitting.Verdict.{Verdict}
 use Rattle.profiles.specs.declared.fields.Profile.{Profile}
-use Rattle.lint.specs.Judging.{by_soundness, side_judgement, or_else, both_sides, admission_of, once_admitted, judgement_of}
+use Rattle.lint.specs.declared.reasons.Inadmissible.{Inadmissible}
+use Rattle.lint.specs.Judging.{by_soundness, side_judgement, both_sides, admission_of, once_admitted, judgement_of}
 use Rattle.lint.specs.declared.reasons.Refusal.{Refusal}
 use Rattle.lint.specs.declared.reasons.Side.TheVariants.{Certificate}
-use Rattle.lint.specs.declared.judging.Admission.{Admission}
-use Rattle.lint.specs.declared.judging.Judgement.{Judgement}
-use Rattle.lint.specs.declared.judging.Judgement.TheVariants.{Accepted, Refused}
-use Rattle.lint.specs.declared.judging.Admission.TheVariants as Admissions
 
-refused : (r : Refusal) (p : Profile) → Refused r ≡ Accepted p → ⊥
+refused : (r : Refusal) (p : Profile) → Err r ≡ Ok p → ⊥
 refused r p e =
     let z : ◌≡◌ {A = ℕ} 0 1 = cc e in
     omega arith
 
 module _ (p : Profile) where
-  side_sound : (q : Profile) (d : Soundness) (v : Verdict) (other : Judgement)
-      → or_else (by_soundness q Certificate d v) other ≡ Accepted p → d ≡ Sound
+  side_sound : (q : Profile) (d : Soundness) (v : Verdict) (other : Result Profile Refusal)
+      → result_and (by_soundness q Certificate d v) other ≡ Ok p → d ≡ Sound
   side_sound q Sound v other e = refl
   side_sound q (Unsound place) v other e = absurd (refused _ p e)
   side_sound q (Unordered place) v other e = absurd (refused _ p e)
 
-  once_sound : (admission : Admission) (s issuer : List ℕ) → once_admitted admission s issuer ≡ Accepted p → der_soundness s ≡ Sound
+  once_sound : (admission : Result Profile Inadmissible) (s issuer : List ℕ) → once_admitted admission s issuer ≡ Ok p → der_soundness s ≡ Sound
   unfolding both_sides side_judgement
-  once_sound (Admissions.Refused r) s issuer e = absurd (refused _ p e)
-  once_sound (Admissions.Admitted q) s issuer e = side_sound q (der_soundness s) (certificate_verdict s) _ e
+  once_sound (Err r) s issuer e = absurd (refused _ p e)
+  once_sound (Ok q) s issuer e = side_sound q (der_soundness s) (certificate_verdict s) _ e
 
-  pub accepted_sound : (s issuer : List ℕ) (profile : ℕ) → judgement_of s issuer profile ≡ Accepted p → der_soundness s ≡ Sound
+  pub accepted_sound : (s issuer : List ℕ) (profile : ℕ) → judgement_of s issuer profile ≡ Ok p → der_soundness s ≡ Sound
   unfolding judgement_of
   accepted_sound s issuer profile e = once_sound (admission_of (length s) (length issuer) profile) s issuer e

@@ -5,6 +5,7 @@ use mathlib.Core.Path.{◌≡◌, refl, sym, ap, ◌∙◌, subst}
 use mathlib.Core.List.{List}
 use Prim.Native.Nat.{ℕ}
 use native.Mathlib.Omega.{arith}
+use Rattle.std.specs.Prelude.{Result, Ok, Err}
 use Rattle.places.specs.Statement.{AtElements, Places}
 use Rattle.profiles.specs.declared.fields.Profile.{Profile}
 use Rattle.report.specs.Answers.{filled}
@@ -12,20 +13,18 @@ use Rattle.report.specs.Entries.{decode}
 use Rattle.report.specs.declared.sink.Entry.{Entry}
 use Rattle.rules.specs.Rules.{findings}
 use Rattle.rules.proofs.Laws.Findings.{findings_elements}
+use Rattle.lint.specs.declared.reasons.Refusal.{Refusal}
 use Rattle.lint.specs.Judging.{judgement_of}
 use Rattle.lint.specs.Answers.{answer_by, room_by, answer_of, room_of}
-use Rattle.lint.specs.declared.judging.Judgement.{Judgement}
-use Rattle.lint.specs.declared.linting.Answer.TheVariants.{Report}
 use Rattle.lint.proofs.Laws.Accepted.{accepted_fits}
 use Rattle.lint.proofs.Laws.Order.{findings_back}
 use Rattle.lint.proofs.Laws.Statements.{told_report}
 use Rattle.places.proofs.Laws.Soundness.{element_sound}
 use Rattle.octets.specs.declared.places.Place.{Place}
 use Rattle.places.proofs.Laws.Accepted.{accepted_sound}
-use Rattle.lint.specs.declared.judging.Judgement.TheVariants as Judgements
 
 module _ (s issuer : List ℕ) (profile : ℕ) where
-  findings_at : (p : Profile) → judgement_of s issuer profile ≡ Judgements.Accepted p → AtElements s (findings p s issuer)
+  findings_at : (p : Profile) → judgement_of s issuer profile ≡ Ok p → AtElements s (findings p s issuer)
   findings_at p e =
       record {
         each = λ d m. let x = findings_elements p s issuer (accepted_fits s issuer profile p e) d m in
@@ -35,15 +34,15 @@ module _ (s issuer : List ℕ) (profile : ℕ) where
   -- ---- what the linter answers
 
   module _ (room : List ℕ) (n : ℕ) where
-    answered : (j : Judgement) → judgement_of s issuer profile ≡ j → answer_by j s issuer room ≡ Report n
+    answered : (j : Result Profile Refusal) → judgement_of s issuer profile ≡ j → answer_by j s issuer room ≡ Ok n
         → AtElements s (decode n (room_by j s issuer room))
-    answered (Judgements.Refused r) q e = let z : ◌≡◌ {A = ℕ} 0 1 = cc e in absurd (omega arith)
-    answered (Judgements.Accepted p) q e =
+    answered (Err r) q e = let z : ◌≡◌ {A = ℕ} 0 1 = cc e in absurd (omega arith)
+    answered (Ok p) q e =
         let c = told_report (findings p s issuer) room n e in
         let back = ap (λ (m : ℕ). decode m (filled (findings p s issuer) room)) c.1 ∙ findings_back p s issuer profile room q c.0 in
         subst (λ (es : List Entry). AtElements s es) (sym back) (findings_at p q)
 
-    report_at : answer_of s issuer profile room ≡ Report n → AtElements s (decode n (room_of s issuer profile room))
+    report_at : answer_of s issuer profile room ≡ Ok n → AtElements s (decode n (room_of s issuer profile room))
     unfolding answer_of room_of
     report_at e = answered (judgement_of s issuer profile) refl e
 

@@ -16,6 +16,7 @@ use lib.ListN.{length, take, drop, replicate, length-append, length-replicate, g
 use lib.Seq.{take-add, take-take, take-append-le, drop_at, get_or-take, length-take-le}
 use lib.Dec.{ltb}
 use borrow.Author.Tests.{lt-ltb}
+use Rattle.std.specs.Prelude.{Result}
 use Rattle.reader.specs.Runs.{from, starts, data_from, record_from}
 use Rattle.reader.specs.Events.{Event, record_at, lost_at, event_if}
 use Rattle.reader.specs.Finding.{found_if, found_at}
@@ -29,9 +30,9 @@ use Rattle.reader.specs.declared.stepping.Item.{Item}
 use Rattle.octets.specs.Octets.{octet_at}
 use Rattle.octets.specs.Numbers.{pair_at}
 use Rattle.blocks.specs.Record.{parts, profile_in, certificate_length, certificate_octets, issuer_octets}
+use Rattle.lint.specs.declared.reasons.Refusal.{Refusal}
 use Rattle.lint.specs.Refusals.{answer_values}
 use Rattle.lint.specs.Answers.{Answered}
-use Rattle.lint.specs.declared.linting.Answer.{Answer}
 use Rattle.lint.proofs.Laws.Values.{lint_values_lem}
 use Rattle.reader.proofs.Laws.Places.{data_length}
 use Rattle.reader.proofs.Laws.Found.{Start}
@@ -99,14 +100,14 @@ module _ (desk : List ℕ) (n cut : ℕ) (e : cut ≡ 3 + pair_at desk 1) (h : c
       let m : 3 + certificate_length p ≡ cut = omega (arith, on_cut) in
       ap (λ (i : ℕ). drop i p) m ∙ drop-take cut n desk h (omega arith)
 
-  pub desk_linted : (number profile : ℕ) (room last : List ℕ) (a : Answer) → profile ≡ octet_at desk 0
+  pub desk_linted : (number profile : ℕ) (room last : List ℕ) (a : Result ℕ Refusal) → profile ≡ octet_at desk 0
       → Answered (take (cut - 3) (drop 3 desk)) (take (n - cut) (drop cut desk)) profile room a last
       → Linted number p room (record { number = number; profile = profile; length = n; answer = a }) last
   unfolding linted_room
   desk_linted number profile room last a q l =
       linted
       (rw (length-take-le n desk k, on_profile, on_certificate_lem, on_issuer_lem, ← q)
-      (ap (λ (x : Answer). record { number = number; profile = profile; length = n; answer = x }) l.told))
+      (ap (λ (x : Result ℕ Refusal). record { number = number; profile = profile; length = n; answer = x }) l.told))
       (rw (on_profile, on_certificate_lem, on_issuer_lem, ← q) l.bytes)
 
 -- the desk before anything lies on it

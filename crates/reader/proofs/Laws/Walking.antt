@@ -14,6 +14,7 @@ use Prim.Native.Nat.{ℕ, zero, suc, ◌+◌, ◌*◌, ◌≤◌, ◌<◌}
 use native.Mathlib.Omega.{arith}
 use lib.ListN.{length, drop_of_length-le}
 use borrow.Author.Tests.{lt-ltb, le-ltb}
+use Rattle.std.specs.Prelude.{Result}
 use Rattle.reader.specs.Runs.{blocks, from, starts}
 use Rattle.reader.specs.Events.{Event, record_at, lost_at, event_if, reading, events, events_from}
 use Rattle.reader.specs.Finding.{found_at, blocks_in}
@@ -22,8 +23,8 @@ use Rattle.reader.specs.Walking.{Handed, handed_at, unless_end, walk, position_o
 use Rattle.reader.specs.declared.stepping.Item.{Item}
 use Rattle.blocks.specs.Record.{profile_in, certificate_octets, issuer_octets}
 use Rattle.blocks.proofs.Laws.Logic.{below_or_not}
+use Rattle.lint.specs.declared.reasons.Refusal.{Refusal}
 use Rattle.lint.proofs.Laws.Rooms.{answer_room, room_long, report_room}
-use Rattle.lint.specs.declared.linting.Answer.{Answer}
 use Rattle.reader.proofs.Laws.Places.{from_nil}
 use Rattle.reader.proofs.Laws.Counts.{reads_on}
 use Rattle.reader.proofs.Laws.Passing.{item_blocks_lem, item_moves}
@@ -34,7 +35,7 @@ use Rattle.reader.specs.declared.stepping.Item.TheVariants as Items
 pub same_handed : (room other : List ℕ) → length room ≡ length other → (e : Event) → handed_over room e ≡ handed_over other e
 unfolding linted_room
 same_handed room other h (record_at position number p) =
-    ap₂ (λ (a : Answer) (report : List ℕ). record {
+    ap₂ (λ (a : Result ℕ Refusal) (report : List ℕ). record {
       position = position;
       item = Items.Record (record { number = number; profile = profile_in p; length = length p; answer = a });
       report = report;

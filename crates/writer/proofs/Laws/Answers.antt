@@ -12,64 +12,62 @@ use native.Mathlib.Omega.{arith}
 use lib.Dec.{eqb, leb}
 use lib.ListN.{length}
 use borrow.Author.Tests.{eqb-false, leb-true}
+use Rattle.std.specs.Prelude.{Result, Ok, Err}
 use Rattle.writer.specs.Cutting.{blocks_of}
 use Rattle.writer.specs.Values.{not_written_values, placing_values}
 use Rattle.writer.specs.Answers.{by_room, by_admission, write_answer, room_written, write_room, Written}
 use Rattle.writer.specs.declared.reasons.NotWritten.{NotWritten}
 use Rattle.writer.specs.declared.reasons.NotWritten.TheVariants.{Inadmissible, NoNumber, NoRoom}
-use Rattle.writer.specs.declared.writing.Placing.{Placing}
-use Rattle.writer.specs.declared.writing.Placing.TheVariants.{Blocks, Refused}
 use Rattle.profiles.specs.declared.fields.Profile.{Profile}
 use Rattle.lint.specs.Judging.{admission_of}
-use Rattle.lint.specs.declared.judging.Admission.{Admission}
 use Rattle.lint.proofs.Laws.Bounds.{inadmissible_nowhere}
 use Rattle.blocks.specs.Record.{record_of, parts}
 use Rattle.writer.proofs.Laws.Values.{write_values_lem}
-use Rattle.lint.specs.declared.judging.Admission.TheVariants as Admissions
+use Rattle.lint.specs.declared.reasons.Inadmissible as Reason
 
 -- what is refused is no number of blocks
-refused : (r : NotWritten) (count : ℕ) → Refused r ≡ Blocks count → ⊥
+refused : (r : NotWritten) (count : ℕ) → Err r ≡ Ok count → ⊥
 refused r count e =
     let z : ◌≡◌ {A = ℕ} 0 1 = cc e in
     omega arith
 
 -- no refusal applies, and the count is that of the parts
-pub record Taken (admission : Admission) (number count room all : ℕ) : Type 0 where
+pub record Taken (admission : Result Profile Reason.Inadmissible) (number count room all : ℕ) : Type 0 where
   pub for : Profile
-  pub admitted : admission ≡ Admissions.Admitted for
+  pub admitted : admission ≡ Ok for
   pub numbered : number ≢ 0
   pub fitting : 512 * count ≤ room
   pub counted : count ≡ all
 
-room_taken : (count all room : ℕ) → by_room all room ≡ Blocks count → (512 * count ≤ room) × (count ≡ all)
+room_taken : (count all room : ℕ) → by_room all room ≡ Ok count → (512 * count ≤ room) × (count ≡ all)
 room_taken count all room = go (leb (512 * all) room) refl
   where
-    go : (b : Bool) → leb (512 * all) room ≡ b → cond b (Blocks all) (Refused NoRoom) ≡ Blocks count → (512 * count ≤ room) × (count ≡ all)
+    go : (b : Bool) → leb (512 * all) room ≡ b → cond b (Ok all) (Err NoRoom) ≡ Ok count → (512 * count ≤ room) × (count ≡ all)
     go true t e =
         let same : count ≡ all = cc e in
         (rw same (leb-true (512 * all) room t), same)
     go false t e = absurd (refused NoRoom count e)
 
-admission_taken : (admission : Admission) (number count room all : ℕ) → by_admission admission number all room ≡ Blocks count
+admission_taken : (admission : Result Profile Reason.Inadmissible) (number count room all : ℕ) → by_admission admission number all room ≡ Ok count
     → Taken admission number count room all
-admission_taken (Admissions.Refused r) number count room all e = absurd (refused (Inadmissible r) count e)
-admission_taken (Admissions.Admitted p) number count room all e = go (eqb number 0) refl e
+admission_taken (Err r) number count room all e = absurd (refused (Inadmissible r) count e)
+admission_taken (Ok p) number count room all e = go (eqb number 0) refl e
   where
-    go : (b : Bool) → eqb number 0 ≡ b → cond b (Refused NoNumber) (by_room all room) ≡ Blocks count → Taken (Admissions.Admitted p) number count room all
+    go : (b : Bool) → eqb number 0 ≡ b → cond b (Err NoNumber) (by_room all room) ≡ Ok count → Taken (Ok p) number count room all
     go true t e = absurd (refused NoNumber count e)
     go false t e =
         let f = room_taken count all room e in
         record { for = p; admitted = refl; numbered = eqb-false number 0 t; fitting = f.0; counted = f.1 }
 
 module _ (number profile : ℕ) (certificate issuer room : List ℕ) where
-  pub taken_only : (count : ℕ) → write_answer number profile certificate issuer room ≡ Blocks count
+  pub taken_only : (count : ℕ) → write_answer number profile certificate issuer room ≡ Ok count
       → Taken (admission_of (length certificate) (length issuer) profile) number count (length room) (parts (length (record_of profile certificate issuer)))
   unfolding write_answer
   taken_only count e =
       admission_taken (admission_of (length certificate) (length issuer) profile) number count (length room)
       (parts (length (record_of profile certificate issuer))) e
 
-  pub answered : (r : Placing) (last : List ℕ) → write_answer number profile certificate issuer room ≡ r
+  pub answered : (r : Result ℕ NotWritten) (last : List ℕ) → write_answer number profile certificate issuer room ≡ r
       → last ≡ room_written r (blocks_of number (record_of profile certificate issuer)) room → Written number profile certificate issuer room r last
   unfolding write_room
   answered r last e b =

@@ -15,12 +15,11 @@ use native.Mathlib.Omega.{arith}
 use lib.ListN.{length, take, drop, length-append, length-drop}
 use lib.Seq.{take_at, drop_at}
 use borrow.Author.Tests.{eq-eqb, ne_eqb, le-leb, lt-leb}
+use Rattle.std.specs.Prelude.{Result, Ok, Err}
 use Rattle.writer.specs.Cutting.{blocks_of, end_to_end}
 use Rattle.writer.specs.Answers.{write_answer, write_room, Written}
 use Rattle.writer.specs.declared.reasons.NotWritten.{NotWritten}
 use Rattle.writer.specs.declared.reasons.NotWritten.TheVariants.{Inadmissible, NoNumber, NoRoom}
-use Rattle.writer.specs.declared.writing.Placing.{Placing}
-use Rattle.writer.specs.declared.writing.Placing.TheVariants.{Blocks, Refused}
 use Rattle.profiles.specs.declared.fields.Profile.{Profile}
 use Rattle.lint.specs.Judging.{admission_of}
 use Rattle.lint.proofs.Laws.Accepted.{admitted_certificate, admitted_issuer}
@@ -29,42 +28,41 @@ use Rattle.blocks.proofs.Laws.Record.{record_length_lem}
 use Rattle.writer.proofs.Laws.Cutting.{blocks_length}
 use Rattle.writer.proofs.Laws.Answers.{taken_only}
 use Rattle.lint.specs.declared.reasons.Inadmissible as Reason
-use Rattle.lint.specs.declared.judging.Admission.TheVariants as Admissions
 
 -- ---- S11
 
-pub one_answer : {number profile : ℕ} {certificate issuer room last last' : List ℕ} {r r' : Placing}
+pub one_answer : {number profile : ℕ} {certificate issuer room last last' : List ℕ} {r r' : Result ℕ NotWritten}
     → Written number profile certificate issuer room r last → Written number profile certificate issuer room r' last' → (r ≡ r') × (last ≡ last')
 one_answer a b = (a.told ∙ sym b.told, a.bytes ∙ sym b.bytes)
 
 module _ (number profile : ℕ) (certificate issuer room : List ℕ) where
   -- ---- the order of refusals: "the first that applies"
 
-  pub refused_first : (r : Reason.Inadmissible) → admission_of (length certificate) (length issuer) profile ≡ Admissions.Refused r
-      → write_answer number profile certificate issuer room ≡ Refused (Inadmissible r)
+  pub refused_first : (r : Reason.Inadmissible) → admission_of (length certificate) (length issuer) profile ≡ Err r
+      → write_answer number profile certificate issuer room ≡ Err (Inadmissible r)
   unfolding write_answer
   refused_first r e = rw e
 
-  module _ (p : Profile) (e : admission_of (length certificate) (length issuer) profile ≡ Admissions.Admitted p) where
-    pub refused_number : number ≡ 0 → write_answer number profile certificate issuer room ≡ Refused NoNumber
+  module _ (p : Profile) (e : admission_of (length certificate) (length issuer) profile ≡ Ok p) where
+    pub refused_number : number ≡ 0 → write_answer number profile certificate issuer room ≡ Err NoNumber
     unfolding write_answer
     refused_number z = rw (e, eq-eqb number 0 z)
 
     module _ (h : number ≢ 0) where
       pub refused_room : length room < 512 * parts (length (record_of profile certificate issuer))
-          → write_answer number profile certificate issuer room ≡ Refused NoRoom
+          → write_answer number profile certificate issuer room ≡ Err NoRoom
       unfolding write_answer
       refused_room l = rw (e, ne_eqb number 0 h, lt-leb (512 * parts (length (record_of profile certificate issuer))) (length room) l)
 
       pub taken : 512 * parts (length (record_of profile certificate issuer)) ≤ length room
-          → write_answer number profile certificate issuer room ≡ Blocks (parts (length (record_of profile certificate issuer)))
+          → write_answer number profile certificate issuer room ≡ Ok (parts (length (record_of profile certificate issuer)))
       unfolding write_answer
       taken l = rw (e, ne_eqb number 0 h, le-leb (512 * parts (length (record_of profile certificate issuer))) (length room) l)
 
   -- ---- the room
 
   -- "lent memory unchanged"
-  pub room_kept : (r : NotWritten) → write_answer number profile certificate issuer room ≡ Refused r
+  pub room_kept : (r : NotWritten) → write_answer number profile certificate issuer room ≡ Err r
       → write_room number profile certificate issuer room ≡ room
   unfolding write_room
   room_kept r e = rw e
@@ -74,7 +72,7 @@ module _ (number profile : ℕ) (certificate issuer room : List ℕ) where
     pub rest : drop (512 * count) last ≡ drop (512 * count) room
     pub as_long : length last ≡ length room
 
-  pub rest_kept : (count : ℕ) → number < 2 ^ 32 → write_answer number profile certificate issuer room ≡ Blocks count
+  pub rest_kept : (count : ℕ) → number < 2 ^ 32 → write_answer number profile certificate issuer room ≡ Ok count
       → Left count (write_room number profile certificate issuer room)
   unfolding write_room
   rest_kept count hnumber e =

@@ -10,32 +10,31 @@ use Prim.Native.Nat.{ℕ, ◌*◌}
 use native.Mathlib.Omega.{arith}
 use lib.Dec.{eqb, leb}
 use lib.ListN.{length}
+use Rattle.std.specs.Prelude.{Result, Ok, Err}
 use Rattle.writer.specs.Values.{not_written_values, placing_values, blocks_table, block_count, write_values}
 use Rattle.writer.specs.Answers.{by_admission, write_answer}
 use Rattle.writer.specs.declared.reasons.NotWritten.{NotWritten}
 use Rattle.writer.specs.declared.reasons.NotWritten.TheVariants.{Inadmissible, NoNumber, NoRoom}
-use Rattle.writer.specs.declared.writing.Placing.{Placing}
-use Rattle.writer.specs.declared.writing.Placing.TheVariants.{Blocks, Refused}
 use Rattle.refusals.specs.Table.{record_number_zero, too_little_room, on_neither, unrefused, refusal_row, first_that_applies}
 use Rattle.refusals.specs.declared.table.Values.{Values}
 use Rattle.refusals.proofs.Laws.Table.{Tabled, tabled}
 use Rattle.lint.specs.Judging.{admission_of}
 use Rattle.lint.specs.declared.reasons.Inadmissible.TheVariants.{CertificateLength, IssuerLength, UnknownProfile}
-use Rattle.lint.specs.declared.judging.Admission.{Admission}
+use Rattle.profiles.specs.declared.fields.Profile.{Profile}
 use Rattle.lint.proofs.Laws.Values.{admission_values, admission_values_lem, inadmissible_from, inadmissible_tabled}
-use Rattle.lint.specs.declared.judging.Admission.TheVariants as Admissions
+use Rattle.lint.specs.declared.reasons.Inadmissible as Reason
 
 -- what is given once 1 to 3 do not apply
 abbrev blocks_values : ℕ → ℕ → ℕ → Values
 blocks_values number count room = first_that_applies (blocks_table number count room) (unrefused count)
 
-by_admission_lem : (a : Admission) (number count room : ℕ)
+by_admission_lem : (a : Result Profile Reason.Inadmissible) (number count room : ℕ)
     → placing_values (by_admission a number count room) ≡ admission_values a (λ p. blocks_values number count room)
-by_admission_lem (Admissions.Refused r) number count room = refl
-by_admission_lem (Admissions.Admitted p) number count room = go (eqb number 0) (leb (512 * count) room)
+by_admission_lem (Err r) number count room = refl
+by_admission_lem (Ok p) number count room = go (eqb number 0) (leb (512 * count) room)
   where
     go : (zero enough : Bool)
-        → placing_values (cond zero (Refused NoNumber) (cond enough (Blocks count) (Refused NoRoom)))
+        → placing_values (cond zero (Err NoNumber) (cond enough (Ok count) (Err NoRoom)))
         ≡ first_that_applies (refusal_row record_number_zero on_neither 0 zero ∷ refusal_row too_little_room on_neither 0 (not enough) ∷ []) (unrefused count)
     go true enough = refl
     go false true = refl
@@ -52,21 +51,21 @@ write_values_lem number profile certificate issuer room =
 
 -- ---- answers by their values
 
-abbrev placing_from : Values → Placing
+abbrev placing_from : Values → Result ℕ NotWritten
 placing_from v =
-    cond (eqb v.number 0) (Blocks v.count)
-    (cond (eqb v.number record_number_zero) (Refused NoNumber)
-    (cond (eqb v.number too_little_room) (Refused NoRoom) (Refused (Inadmissible (inadmissible_from v.number)))))
+    cond (eqb v.number 0) (Ok v.count)
+    (cond (eqb v.number record_number_zero) (Err NoNumber)
+    (cond (eqb v.number too_little_room) (Err NoRoom) (Err (Inadmissible (inadmissible_from v.number)))))
 
-placing_from_lem : (p : Placing) → placing_from (placing_values p) ≡ p
-placing_from_lem (Blocks count) = refl
-placing_from_lem (Refused (Inadmissible CertificateLength)) = refl
-placing_from_lem (Refused (Inadmissible IssuerLength)) = refl
-placing_from_lem (Refused (Inadmissible UnknownProfile)) = refl
-placing_from_lem (Refused NoNumber) = refl
-placing_from_lem (Refused NoRoom) = refl
+placing_from_lem : (p : Result ℕ NotWritten) → placing_from (placing_values p) ≡ p
+placing_from_lem (Ok count) = refl
+placing_from_lem (Err (Inadmissible CertificateLength)) = refl
+placing_from_lem (Err (Inadmissible IssuerLength)) = refl
+placing_from_lem (Err (Inadmissible UnknownProfile)) = refl
+placing_from_lem (Err NoNumber) = refl
+placing_from_lem (Err NoRoom) = refl
 
-pub values_apart : (a b : Placing) → placing_values a ≡ placing_values b → a ≡ b
+pub values_apart : (a b : Result ℕ NotWritten) → placing_values a ≡ placing_values b → a ≡ b
 values_apart a b e = sym (placing_from_lem a) ∙ ap placing_from e ∙ placing_from_lem b
 
 -- ---- bounds

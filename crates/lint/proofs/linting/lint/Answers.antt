@@ -1,16 +1,13 @@
 -- `lint::linting::lint` meets its contract. Assumes nothing.
+use borrow.Author.Rules.{rules}
 use Rattle.lint.specs.Answers.{answer_of, room_of}
 use Rattle.lint.proofs.Laws.Values.{answered}
 use Rattle.lint.proofs.linting.lint.Goals as goal
 
-pub returns-in-Refused : goal.returns-in-Refused
+pub returns-in_err-p : goal.returns-in_err-p
 unfolding answer_of room_of
-returns-in-Refused c =
-    answered (rw (← c.examine-judgement.ensures, c.in-Refused.is))
-    (rw (← c.examine-judgement.ensures, c.in-Refused.is))
+returns-in_err-p c = answered (search rules) (search rules)
 
-pub returns-in-Accepted : goal.returns-in-Accepted
+pub returns : goal.returns
 unfolding answer_of room_of
-returns-in-Accepted c =
-    answered (rw (← c.examine-judgement.ensures, c.in-Accepted.is) c.report_on.ensures.told)
-    (rw (← c.examine-judgement.ensures, c.in-Accepted.is) c.report_on.ensures.bytes)
+returns c = answered (search rules) (search rules)

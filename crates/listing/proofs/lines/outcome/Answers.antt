@@ -2,9 +2,9 @@
 use Rattle.texts.specs.Texts.{word}
 use Rattle.listing.proofs.lines.outcome.Goals as goal
 
-pub returns-in-Report : goal.returns-in-Report
+pub returns-in-Ok : goal.returns-in-Ok
 unfolding word
-returns-in-Report c = rw c.in-Report.is c.field.ensures
+returns-in-Ok c = rw c.in-Ok.is c.field.ensures
 
-pub returns-in-Refused : goal.returns-in-Refused
-returns-in-Refused c = rw c.in-Refused.is c.refusal.ensures
+pub returns-in-Err : goal.returns-in-Err
+returns-in-Err c = rw c.in-Err.is c.refusal.ensures

@@ -2,8 +2,8 @@
 use Rattle.listing.proofs.Laws.Findings.{reported_lines, refused_lines}
 use Rattle.listing.proofs.lines.record_lines.Goals as goal
 
-pub returns-in-Report : goal.returns-in-Report
-returns-in-Report c = reported_lines _ _ c.in-Report.is c.record_line-m.ensures c.finding_lines.ensures
+pub returns-in-Ok : goal.returns-in-Ok
+returns-in-Ok c = reported_lines _ _ c.in-Ok.is c.record_line-m.ensures c.finding_lines.ensures
 
-pub returns-in-Refused : goal.returns-in-Refused
-returns-in-Refused c = refused_lines _ _ c.in-Refused.is c.record_line-m.ensures
+pub returns-in-Err : goal.returns-in-Err
+returns-in-Err c = refused_lines _ _ c.in-Err.is c.record_line-m.ensures
