@@ -1,10 +1,8 @@
 -- What an ASN.1 type is, and where an element departs from one. DER is matched by identifier octets, left to right.
-use Rattle.std.specs.Prelude.{Bool, true, false, cond, not, ◌&&◌, ◌||◌, List, [], ◌∷◌, map, ℕ, ◌/◌, ◌%◌, ◌^◌, eqb, ltb}
+use Rattle.std.specs.Prelude.{Bool, true, false, cond, not, ◌&&◌, ◌||◌, List, [], ◌∷◌, map, is_some, ℕ, ◌/◌, ◌%◌, ◌^◌, eqb, ltb}
 use Rattle.asn.specs.declared.fitting.Verdict.{Verdict}
 use Rattle.asn.specs.declared.fitting.Verdict.TheVariants.{Stranger, Fits, Wrong}
 use Rattle.times.specs.Reads.{time_of}
-use Rattle.times.specs.declared.reading.Reading.{Reading}
-use Rattle.times.specs.declared.reading.Reading.TheVariants.{Is, Bad}
 use Rattle.der.specs.Header.{children_of}
 use Rattle.der.specs.Contents.{integer_ok, last_of, bits_ok, null_ok, oid_ok, contents_of}
 use Rattle.der.specs.Order.{ascending, octets_of}
@@ -65,10 +63,6 @@ named_ok [] = false
 named_ok (unused ∷ []) = eqb unused 0
 named_ok (unused ∷ b ∷ bs) = bits_ok (unused ∷ b ∷ bs) && eqb (last_of b bs / 2 ^ unused % 2) 1
 
-abbrev pub is_real : Reading → Bool
-is_real (Is t) = true
-is_real Bad = false
-
 -- A universal type that bears its own tag was judged with all of DER (refusal 4): the first four tests are for implicit tags.
 abbrev pub passes : Test → ℕ → List ℕ → Bool
 passes integer tag c = ltb tag application_class || integer_ok c
@@ -81,8 +75,8 @@ passes positive tag c = positive_ok c
 passes version tag c = version_ok c
 passes yes_octet tag c = true_ok c
 passes bits_named tag c = named_ok c
-passes utc tag c = is_real (time_of utc_time_tag c)
-passes generalized tag c = is_real (time_of generalized_time_tag c)
+passes utc tag c = is_some (time_of utc_time_tag c)
+passes generalized tag c = is_some (time_of generalized_time_tag c)
 
 -- ---- an element
 

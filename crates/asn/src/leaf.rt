@@ -1,13 +1,11 @@
 // Contents that are no list of elements, by the number of their test. A type that DER has judged under its own tag is
 // tested under another alone.
-ghost use Rattle.std.specs.Prelude.{◌≡◌, ◌+◌, ◌-◌, ◌/◌, ◌%◌, ◌^◌, ◌||◌, eqb, ltb};
+ghost use Rattle.std.specs.Prelude.{◌≡◌, ◌+◌, ◌-◌, ◌/◌, ◌%◌, ◌^◌, ◌||◌, eqb, ltb, is_some};
 ghost use Rattle.octets.specs.Octets.{octet_at, octets_from};
 ghost use Rattle.der.specs.Contents.{primitive_ok};
-ghost use Rattle.asn.specs.Grammar.{version_ok, true_ok, natural_ok, positive_ok, named_ok, is_real, passes};
+ghost use Rattle.asn.specs.Grammar.{version_ok, true_ok, natural_ok, positive_ok, named_ok, passes};
 ghost use Rattle.times.specs.Reads.{time_of};
 ghost use Rattle.asn.specs.Workings.Table.{test_at};
-
-use times::Reading;
 
 fn version_ok(s: &[u8], body: usize, n: usize) -> bool
     ensures { result ≡ version_ok (octets_from s.now body n) }
@@ -60,12 +58,9 @@ fn named_ok(s: &[u8], body: usize, n: usize) -> bool
 }
 
 fn time_ok(s: &[u8], tag: u8, body: usize, n: usize) -> bool
-    ensures { result ≡ is_real (time_of tag (octets_from s.now body n)) }
+    ensures { result ≡ is_some (time_of tag (octets_from s.now body n)) }
 {
-    match times::read_time(s, tag, body, n) {
-        Reading::Is(_) => true,
-        Reading::Bad => false,
-    }
+    times::read_time(s, tag, body, n).is_some()
 }
 
 // A universal type under another tag than its own: with its own it was judged with all of DER.

@@ -1,6 +1,6 @@
 -- The fields of a certificate, head after head in the order of RFC 5280, 4.1. Every definition answers for any octets; that the fields of an
 -- accepted certificate are those that its grammar names is in proofs/Laws/Fields.antt.
-use Rattle.std.specs.Prelude.{List, ℕ, length}
+use Rattle.std.specs.Prelude.{List, ℕ, length, unwrap_or}
 use Rattle.certificate.specs.declared.fields.Certificate.{Certificate}
 use Rattle.der.specs.Header.{head_of}
 use Rattle.der.specs.Contents.{contents_of}
@@ -10,8 +10,6 @@ use Rattle.times.specs.Reads.{time_of}
 use Rattle.times.specs.declared.validity.Time.{Time}
 use Rattle.times.specs.declared.validity.Time.TheVariants.{Utc}
 use Rattle.times.specs.declared.validity.Validity.{Validity}
-use Rattle.times.specs.declared.reading.Reading.{Reading}
-use Rattle.times.specs.declared.reading.Reading.TheVariants.{Is, Bad}
 use Rattle.der.specs.Members.{first_in, after, past, inside_tag}
 
 -- ---- Certificate: tbsCertificate, signatureAlgorithm, signatureValue
@@ -74,13 +72,9 @@ not_after_in s period = after s (not_before_in s period) period.end
 abbrev pub no_time : Time
 no_time = Utc (record { year = 0; month = 0; day = 0; hour = 0; minute = 0; second = 0 })
 
-abbrev pub time_is : Reading → Time
-time_is (Is t) = t
-time_is Bad = no_time
-
 -- the time that an element says
 unfoldable pub time_in : List ℕ → Head → Time
-time_in s h = time_is (time_of h.tag (contents_of s h))
+time_in s h = unwrap_or (time_of h.tag (contents_of s h)) no_time
 
 unfoldable pub validity_of : List ℕ → Head → Head → Validity
 validity_of s before after = record { not_before = time_in s before; not_after = time_in s after }

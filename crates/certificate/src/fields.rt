@@ -1,10 +1,10 @@
 // The fields of a certificate, head after head in the order of RFC 5280, 4.1. Nothing is judged here: a certificate
 // that is none is refused before.
 ghost use Rattle.std.specs.Prelude.{◌≡◌};
-ghost use Rattle.certificate.specs.Fields.{list_after, time_in, time_is, validity_of, certificate_of};
+ghost use Rattle.certificate.specs.Fields.{list_after, time_in, validity_of, certificate_of};
 
 use der::Head;
-use times::{Date, Reading, Time, Validity};
+use times::{Date, Time, Validity};
 
 #[derive(Clone, Copy)]
 pub struct Certificate {
@@ -30,28 +30,21 @@ pub struct Certificate {
     pub validity: Validity,
 }
 
-// The time, or a date of zeros where there is none: no accepted certificate has one such.
-fn time_is(reading: Reading) -> Time
-    ensures { result ≡ time_is reading }
-{
-    match reading {
-        Reading::Is(t) => t,
-        Reading::Bad => Time::Utc(Date {
-            year: 0,
-            month: 0,
-            day: 0,
-            hour: 0,
-            minute: 0,
-            second: 0,
-        }),
-    }
-}
+// What stands for a time where there is none: no accepted certificate has one such.
+const NO_TIME: Time = Time::Utc(Date {
+    year: 0,
+    month: 0,
+    day: 0,
+    hour: 0,
+    minute: 0,
+    second: 0,
+});
 
 // The time that an element says.
 fn time_in(s: &[u8], h: Head) -> Time
     ensures { result ≡ time_in s.now h }
 {
-    time_is(times::read_time(s, h.tag, h.body, octets::minus(h.end, h.body)))
+    times::read_time(s, h.tag, h.body, octets::minus(h.end, h.body)).unwrap_or(NO_TIME)
 }
 
 fn validity_of(s: &[u8], before: Head, after: Head) -> Validity

@@ -15,11 +15,8 @@ ghost use Rattle.deckget.specs.Workings.Outcomes.{WroteAll};
 
 use lint::Side;
 use retrieval::Fetched;
-use sides::Choice;
 use std::io::{Print, Read};
 use std::rt::Env;
-use streams::Loaded;
-use texts::Numeral;
 
 // The program takes as much of deck as `decklint` ("It lends the linter 65,536 octets of room and takes as much of
 // deck").
@@ -106,10 +103,8 @@ fn get_from_input(
 ) {
     let mut space = deck_space();
     let n = match streams::read_all(input, &mut space) {
-        Loaded::Octets(n) => n,
-        Loaded::Unreadable(error) => {
-            return streams::say_why(errors, b"standard input", error);
-        }
+        Ok(n) => n,
+        Err(error) => return streams::say_why(errors, b"standard input", error),
     };
     if n > MOST {
         return words::say_too_long(errors);
@@ -117,22 +112,11 @@ fn get_from_input(
     get(output, errors, &space[..n], number, side);
 }
 
-// The number that argument i says.
-fn number_in(rt: &impl Env, i: usize) -> Numeral {
-    let mut text = streams::name_space();
-    match streams::argument(rt, i, &mut text) {
-        Loaded::Octets(n) => texts::decimal_of(&text[..n]),
-        Loaded::Unreadable(_) => Numeral::Other,
-    }
-}
-
 // The side that argument i names.
-fn side_in(rt: &impl Env, i: usize) -> Choice {
+fn side_in(rt: &impl Env, i: usize) -> Option<Side> {
     let mut text = streams::name_space();
-    match streams::argument(rt, i, &mut text) {
-        Loaded::Octets(n) => sides::side_named(&text[..n]),
-        Loaded::Unreadable(_) => Choice::Unknown,
-    }
+    let n = streams::argument(rt, i, &mut text).ok()?;
+    sides::side_named(&text[..n])
 }
 
 fn main(rt: HostRuntime) {
@@ -140,12 +124,10 @@ fn main(rt: HostRuntime) {
     if streams::arg_count(&rt, 4) != 3 {
         return words::say_how_to_call(&errors);
     }
-    let first = number_in(&rt, 1);
-    let second = side_in(&rt, 2);
-    let Numeral::Number(number) = first else {
+    let Some(number) = streams::number_argument(&rt, 1, &mut streams::name_space()) else {
         return words::say_how_to_call(&errors);
     };
-    let Choice::Known(side) = second else {
+    let Some(side) = side_in(&rt, 2) else {
         return words::say_how_to_call(&errors);
     };
     get_from_input(&mut rt.stdin(), &rt, &errors, number as usize, side);

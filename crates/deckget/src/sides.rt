@@ -4,20 +4,14 @@ ghost use Rattle.deckget.specs.Sides.{side_named};
 
 use lint::Side;
 
-#[derive(Clone, Copy)]
-pub enum Choice {
-    Known(Side),
-    Unknown,
-}
-
-pub fn side_named(text: &[u8]) -> Choice
+pub fn side_named(text: &[u8]) -> Option<Side>
     ensures { result ≡ side_named text.now }
 {
     if octets::equals(text, 0, text.len(), b"certificate") {
-        return Choice::Known(Side::Certificate);
+        return Some(Side::Certificate);
     }
     if octets::equals(text, 0, text.len(), b"issuer") {
-        return Choice::Known(Side::Issuer);
+        return Some(Side::Issuer);
     }
-    Choice::Unknown
+    None
 }

@@ -11,7 +11,6 @@ ghost use Rattle.std.specs.Prelude.{◌≡◌, ◌≤◌, length};
 ghost use Rattle.listing.specs.Filling.{item_space};
 
 use std::io::{Print, Read};
-use streams::Loaded;
 
 // Space for a deck, and for a part of its listing. A proof that has so long an array before it goes through all of it, so
 // the arrays are made here, and `list_input` knows their lengths alone.
@@ -54,8 +53,8 @@ fn list_input(input: &mut impl Read, output: &impl Print, errors: &impl Print) {
     let mut space = deck_space();
     let mut out = listing_space();
     match streams::read_all(input, &mut space) {
-        Loaded::Octets(n) => list_deck(output, errors, &space[..n], &mut out),
-        Loaded::Unreadable(error) => streams::say_why(errors, b"decklint: standard input", error),
+        Ok(n) => list_deck(output, errors, &space[..n], &mut out),
+        Err(error) => streams::say_why(errors, b"decklint: standard input", error),
     }
 }
 

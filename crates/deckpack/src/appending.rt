@@ -8,7 +8,6 @@ use std::fs::{OpenFile, OpenOptions};
 use std::io;
 use std::io::{Print, Seek, SeekFrom, Write};
 use std::rt::{Env, Files};
-use streams::Loaded;
 
 // How a deck ends.
 #[derive(Clone, Copy)]
@@ -107,7 +106,7 @@ fn append_named(rt: &impl Files, errors: &impl Print, name: &[u8], blocks: &[u8]
 pub fn append(rt: &(impl Env + Files), errors: &impl Print, i: usize, blocks: &[u8]) {
     let mut name = streams::name_space();
     match streams::argument(rt, i, &mut name) {
-        Loaded::Octets(n) => append_named(rt, errors, &name[..n], blocks),
-        Loaded::Unreadable(error) => streams::say_why(errors, b"deck's name", error),
+        Ok(n) => append_named(rt, errors, &name[..n], blocks),
+        Err(error) => streams::say_why(errors, b"deck's name", error),
     }
 }

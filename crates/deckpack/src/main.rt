@@ -14,8 +14,6 @@ ghost use Rattle.std.specs.Prelude.{◌≡◌, min, ◌≤◌};
 
 use std::io::Print;
 use std::rt::{Env, Files};
-use streams::Loaded;
-use texts::Numeral;
 
 // The most blocks of a record, 33, take so many octets.
 const ROOM: usize = 16896;
@@ -78,13 +76,11 @@ fn pack_files(
 ) {
     let place = number_place(target);
     let mut certificate = [0u8; SIDE];
-    let first = streams::load(rt, errors, place + 2, &mut certificate);
-    let Loaded::Octets(n) = first else {
+    let Ok(n) = streams::load(rt, errors, place + 2, &mut certificate) else {
         return;
     };
     let mut issuer = [0u8; SIDE];
-    let second = streams::load(rt, errors, place + 3, &mut issuer);
-    let Loaded::Octets(m) = second else {
+    let Ok(m) = streams::load(rt, errors, place + 3, &mut issuer) else {
         return;
     };
     pack(
@@ -105,24 +101,14 @@ fn profile_octet(profile: u32) -> u8
     if profile < 255 { profile as u8 } else { 255 }
 }
 
-// The number that argument i says.
-fn number_in(rt: &impl Env, i: usize) -> Numeral {
-    let mut text = streams::name_space();
-    match streams::argument(rt, i, &mut text) {
-        Loaded::Octets(n) => texts::decimal_of(&text[..n]),
-        Loaded::Unreadable(_) => Numeral::Other,
-    }
-}
-
 // The same of number and profile.
 fn pack_arguments(rt: &(impl Env + Files + Print), errors: &impl Print, target: Target) {
     let place = number_place(target);
-    let first = number_in(rt, place);
-    let second = number_in(rt, place + 1);
-    let Numeral::Number(number) = first else {
+    let mut text = streams::name_space();
+    let Some(number) = streams::number_argument(rt, place, &mut text) else {
         return words::say_usage(errors);
     };
-    let Numeral::Number(profile) = second else {
+    let Some(profile) = streams::number_argument(rt, place + 1, &mut text) else {
         return words::say_usage(errors);
     };
     pack_files(rt, errors, target, number, profile_octet(profile));

@@ -1,6 +1,6 @@
 -- The examples of document 01, "Examples on the edge", that are marked P, and the deck of "The deck". Each row has the paper's number, what it asks
 -- and what it answers.
-use Rattle.std.specs.Prelude.{Bool, true, false, List, [], ◌∷◌, ◌++◌, ℕ, length, take, drop, replicate, ℤ, pos, negsuc, Err}
+use Rattle.std.specs.Prelude.{Bool, true, false, List, [], ◌∷◌, ◌++◌, ℕ, length, take, drop, replicate, ℤ, pos, negsuc, Err, Option, Some, None}
 use Prim.Native.String.{String}
 use Rattle.der.specs.Tags.{octet_string_tag, utc_time_tag, sequence_tag}
 use Rattle.der.specs.Header.{head_of}
@@ -10,9 +10,8 @@ use Rattle.refusals.specs.declared.table.Values.{Values}
 use Rattle.texts.specs.Texts.{word}
 use Rattle.times.specs.Reads.{time_of}
 use Rattle.times.specs.Validity.{date_of}
+use Rattle.times.specs.declared.validity.Time.{Time}
 use Rattle.times.specs.declared.validity.Validity.{Validity}
-use Rattle.times.specs.declared.reading.Reading.{Reading}
-use Rattle.times.specs.declared.reading.Reading.TheVariants.{Is, Bad}
 use Rattle.der.specs.declared.header.Head.{Head}
 use Rattle.profiles.specs.declared.fields.Profile.{Profile}
 use Rattle.profiles.specs.declared.fields.Profile.TheVariants.{Domain, Organization}
@@ -70,9 +69,9 @@ pub data Reply : Type 0 where
   -- the question is about something that is none
   senseless : Reply
 
-unfoldable pub year_of : Reading → Reply
-year_of (Is t) = number (pos (date_of t).year)
-year_of Bad = senseless
+unfoldable pub year_of : Option Time → Reply
+year_of (Some t) = number (pos (date_of t).year)
+year_of None = senseless
 
 -- the rules that are broken somewhere
 abbrev pub if_broken : ℕ → List Head → List ℕ → List ℕ
@@ -103,10 +102,10 @@ certificate_with v =
       validity = v;
     }
 
-unfoldable pub validity_breaks : Profile → Reading → Reading → Reply
-validity_breaks p (Is a) (Is b) = breaks (broken_rules (validity_rows p (certificate_with (record { not_before = a; not_after = b }))))
-validity_breaks p (Is a) Bad = senseless
-validity_breaks p Bad b = senseless
+unfoldable pub validity_breaks : Profile → Option Time → Option Time → Reply
+validity_breaks p (Some a) (Some b) = breaks (broken_rules (validity_rows p (certificate_with (record { not_before = a; not_after = b }))))
+validity_breaks p (Some a) None = senseless
+validity_breaks p None b = senseless
 
 -- an OCTET STRING that holds these octets, and key usage, slot 4, with it
 abbrev pub held_octets : List ℕ → List ℕ

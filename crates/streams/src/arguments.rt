@@ -1,9 +1,9 @@
 // The arguments that a program was started with.
-ghost use Rattle.std.specs.Prelude.{◌≡◌, ◌≤◌, length};
-ghost use Rattle.streams.specs.Reading.{Within};
+ghost use Rattle.std.specs.Prelude.{◌≡◌, ◌≤◌, length, IfOk};
+ghost use Rattle.streams.specs.Reading.{SaysNumber};
 
-use crate::reading::Loaded;
 use std::env::FillError;
+use std::io;
 use std::io::Error;
 use std::rt::Env;
 
@@ -37,12 +37,19 @@ pub fn arg_count(rt: &impl Env, most: usize) -> usize
 }
 
 // Puts argument i at the front of the space. It cannot where there is no such argument, or one that is longer.
-pub fn argument(rt: &impl Env, i: usize, space: &mut [u8]) -> Loaded
-    ensures { Within result (length space.new) }
+pub fn argument(rt: &impl Env, i: usize, space: &mut [u8]) -> io::Result<usize>
+    ensures { IfOk result (λ n. n ≤ length space.new) }
 {
-    match rt.arg(i, space) {
-        Ok(n) => Loaded::Octets(n),
-        Err(FillError::NotPresent) => Loaded::Unreadable(Error::from_raw_os_error(INVALID)),
-        Err(FillError::TooLong) => Loaded::Unreadable(Error::from_raw_os_error(TOO_LONG)),
-    }
+    rt.arg(i, space).map_err(|error| match error {
+        FillError::NotPresent => Error::from_raw_os_error(INVALID),
+        FillError::TooLong => Error::from_raw_os_error(TOO_LONG),
+    })
+}
+
+// Puts argument i at the front of the space, and answers the number that it says.
+pub fn number_argument(rt: &impl Env, i: usize, space: &mut [u8]) -> Option<u32>
+    ensures { SaysNumber space.new result }
+{
+    let n = argument(rt, i, space).ok()?;
+    texts::decimal_of(&space[..n])
 }

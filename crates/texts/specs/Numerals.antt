@@ -1,7 +1,6 @@
 -- What a text of decimal digits says.
-use Rattle.std.specs.Prelude.{Bool, cond, ◌&&◌, List, [], ◌∷◌, ℕ, ◌+◌, ◌*◌, leb}
-use Rattle.texts.specs.declared.numerals.Numeral.{Numeral}
-use Rattle.texts.specs.declared.numerals.Numeral.TheVariants.{Number, Other}
+use Rattle.std.specs.Prelude.{Bool, ◌&&◌, List, [], ◌∷◌, ℕ, ◌+◌, ◌*◌, Option, None, leb}
+use Rattle.std.specs.Bool.{then_some}
 use Rattle.octets.specs.Characters.{are_digits, digit_of}
 
 -- the number that digits say, written on behind n
@@ -14,14 +13,14 @@ abbrev pub largest_number : ℕ
 largest_number = 4294967295
 
 -- a number that a record can have
-abbrev pub up_to : Bool → ℕ → Numeral
-up_to digits n = cond (digits && leb n largest_number) (Number n) Other
+abbrev pub up_to : Bool → ℕ → Option ℕ
+up_to digits n = then_some (digits && leb n largest_number) n
 
 -- the digits cs written on behind n
-unfoldable pub decimal_from : ℕ → List ℕ → Numeral
+unfoldable pub decimal_from : ℕ → List ℕ → Option ℕ
 decimal_from n cs = up_to (are_digits cs) (value_from n cs)
 
 -- at least one digit and nothing besides
-unfoldable pub decimal_of : List ℕ → Numeral
-decimal_of [] = Other
+unfoldable pub decimal_of : List ℕ → Option ℕ
+decimal_of [] = None
 decimal_of (c ∷ cs) = decimal_from 0 (c ∷ cs)

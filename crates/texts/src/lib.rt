@@ -5,5 +5,5 @@
 mod numerals;
 mod putting;
 
-pub use numerals::{Numeral, decimal_of};
+pub use numerals::decimal_of;
 pub use putting::{decimal, field, word};

@@ -1,12 +1,11 @@
 -- "A time is either UTCTime or GeneralizedTime, kept with the form it had: YYMMDDHHMMSSZ (50 to 99 is 19YY) or YYYYMMDDHHMMSSZ"
 -- (document 01, "Certificate"). All definitions go by the contents of the element.
-use Rattle.std.specs.Prelude.{List, Bool, cond, ◌&&◌, ℕ, ◌+◌, ◌*◌, length, ltb, eqb}
+use Rattle.std.specs.Prelude.{List, Bool, cond, ◌&&◌, ℕ, ◌+◌, ◌*◌, Option, None, length, ltb, eqb}
+use Rattle.std.specs.Bool.{then_some}
 use Prim.Native.Char.{code}
 use Rattle.times.specs.declared.calendar.Date.{Date}
 use Rattle.times.specs.declared.validity.Time.{Time}
 use Rattle.times.specs.declared.validity.Time.TheVariants.{Utc, General}
-use Rattle.times.specs.declared.reading.Reading.{Reading}
-use Rattle.times.specs.declared.reading.Reading.TheVariants.{Is, Bad}
 use Rattle.times.specs.Calendar.{date_ok}
 use Rattle.times.specs.Validity.{date_of}
 use Rattle.octets.specs.Octets.{octet_at, octets_from}
@@ -49,11 +48,11 @@ abbrev pub general_date : List ℕ → Date
 general_date contents = date_at 4 (100 * two_at 0 contents + two_at 2 contents) contents
 
 -- the time, if it is written as it should be and its date is a real one
-unfoldable pub if_real : Bool → Time → Reading
-if_real written t = cond (written && date_ok (date_of t)) (Is t) Bad
+unfoldable pub if_real : Bool → Time → Option Time
+if_real written t = then_some (written && date_ok (date_of t)) t
 
 -- by the tag
-unfoldable pub time_of : ℕ → List ℕ → Reading
+unfoldable pub time_of : ℕ → List ℕ → Option Time
 time_of tag contents =
     cond (eqb tag utc_time_tag) (if_real (digits_and_z 12 contents) (Utc (utc_date contents)))
-    (cond (eqb tag generalized_time_tag) (if_real (digits_and_z 14 contents) (General (general_date contents))) Bad)
+    (cond (eqb tag generalized_time_tag) (if_real (digits_and_z 14 contents) (General (general_date contents))) None)

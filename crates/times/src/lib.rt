@@ -7,7 +7,7 @@ mod reading;
 mod validity;
 
 pub use calendar::{Date, date_ok, seconds};
-pub use reading::{Reading, read_time};
+pub use reading::read_time;
 pub use validity::{
     Time, Validity, date_of, early_general, is_since, reversed, within_days, within_years,
 };

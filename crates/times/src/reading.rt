@@ -8,13 +8,6 @@ ghost use Rattle.times.specs.Reads.{digits_first, digits_and_z, two_at, date_at,
 use crate::calendar::{Date, date_ok};
 use crate::validity::{Time, date_of};
 
-// A time, or contents that are none.
-#[derive(Clone, Copy)]
-pub enum Reading {
-    Is(Time),
-    Bad,
-}
-
 // The octet of the contents at place k, 0 past their end.
 fn content(s: &[u8], body: usize, n: usize, k: usize) -> u8
     ensures { result ≡ octet_at (octets_from s.now body n) k }
@@ -94,17 +87,14 @@ fn general_date(s: &[u8], body: usize, n: usize) -> Date
     date_at(s, body, n, 4, 100 * century + two_at(s, body, n, 2) as u16)
 }
 
-fn if_real(written: bool, t: Time) -> Reading
+fn if_real(written: bool, t: Time) -> Option<Time>
     ensures { result ≡ if_real written t }
 {
-    if written & date_ok(date_of(t)) {
-        return Reading::Is(t);
-    }
-    Reading::Bad
+    (written & date_ok(date_of(t))).then_some(t)
 }
 
-// The time that an element with this tag says by its contents.
-pub fn read_time(s: &[u8], tag: u8, body: usize, n: usize) -> Reading
+// The time that an element with this tag says by its contents, if they say one.
+pub fn read_time(s: &[u8], tag: u8, body: usize, n: usize) -> Option<Time>
     ensures { result ≡ time_of tag (octets_from s.now body n) }
 {
     match tag {
@@ -116,6 +106,6 @@ pub fn read_time(s: &[u8], tag: u8, body: usize, n: usize) -> Reading
             digits_and_z(s, body, n, 14),
             Time::General(general_date(s, body, n)),
         ),
-        _ => Reading::Bad,
+        _ => None,
     }
 }

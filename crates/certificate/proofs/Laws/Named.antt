@@ -8,11 +8,12 @@ use mathlib.Core.List.{List, [], ◌∷◌, ◌++◌}
 use mathlib.Core.Bool.{Bool, true, false, cond}
 use Prim.Native.Nat.{ℕ, ◌<◌}
 use native.Mathlib.Omega.{arith}
+use Rattle.std.specs.Prelude.{Option, Some, None, is_some, unwrap_or}
 use lib.ListN.{length}
 use lib.Dec.{ltb, eqb}
 use borrow.Author.Tests.{ltb-true, ltb-false, eq-eqb, ne_eqb, eqb-true}
 use Rattle.certificate.specs.Fields.{whole_of, tbs_of, outer_of, version_in, serial_in, inner_in, issuer_in, period_in, subject_in, key_in, extended_after}
-use Rattle.certificate.specs.Fields.{list_after, extension_list_in, not_before_in, not_after_in, time_is, time_in, validity_of, certificate_of}
+use Rattle.certificate.specs.Fields.{list_after, extension_list_in, not_before_in, not_after_in, no_time, time_in, validity_of, certificate_of}
 use Rattle.certificate.proofs.Terms.Named.{VersionNamed, ExtensionsNamed, Named}
 use Rattle.certificate.proofs.Terms.Named.VersionNamed.{unwritten, written}
 use Rattle.certificate.proofs.Terms.Named.ExtensionsNamed.{without, listed}
@@ -23,9 +24,8 @@ use Rattle.der.proofs.Laws.Children.{children_next}
 use Rattle.der.proofs.Laws.Members.{children_first}
 use Rattle.der.specs.Contents.{contents_of}
 use Rattle.times.specs.Reads.{time_of}
-use Rattle.times.specs.declared.reading.Reading.{Reading}
-use Rattle.times.specs.declared.reading.Reading.TheVariants.{Is, Bad}
-use Rattle.asn.specs.Grammar.{Form, Inside, is_real, takes, fits, holds}
+use Rattle.times.specs.declared.validity.Time.{Time}
+use Rattle.asn.specs.Grammar.{Form, Inside, takes, fits, holds}
 use Rattle.asn.specs.Answers.{certificate_verdict}
 use Rattle.asn.specs.Module.{explicit, free, version, time, validity, extensions}
 use Rattle.asn.specs.Grammar.Form.{none, alt}
@@ -110,28 +110,28 @@ module _ (s : List ℕ) (end : ℕ) where
 
 -- ---- times
 
-is_real_lem : (r : Reading) → is_real r ≡ true → r ≡ Is (time_is r)
-is_real_lem (Is t) e = refl
-is_real_lem Bad e = cc
+is_some_lem : (r : Option Time) → is_some r ≡ true → r ≡ Some (unwrap_or r no_time)
+is_some_lem (Some t) e = refl
+is_some_lem None e = cc
 
-time_named : (s : List ℕ) (h : Head) → fits time s h ≡ Fits → time_of h.tag (contents_of s h) ≡ Is (time_in s h)
+time_named : (s : List ℕ) (h : Head) → fits time s h ≡ Fits → time_of h.tag (contents_of s h) ≡ Some (time_in s h)
 unfolding time fits holds time_in
-time_named s h e = is_real_lem (time_of h.tag (contents_of s h)) (by_tag (eqb 23 h.tag) (eqb 24 h.tag) refl refl e)
+time_named s h e = is_some_lem (time_of h.tag (contents_of s h)) (by_tag (eqb 23 h.tag) (eqb 24 h.tag) refl refl e)
   where
     passed : (tag : ℕ) (b : Bool) → cond b Fits (Wrong tag) ≡ Fits → b ≡ true
     passed tag true e = refl
     passed tag false e = cc
 
     by_tag : (a b : Bool) → eqb 23 h.tag ≡ a → eqb 24 h.tag ≡ b
-        → cond a (cond (is_real (time_of 23 (contents_of s h))) Fits (Wrong h.at))
-        (cond b (cond (is_real (time_of 24 (contents_of s h))) Fits (Wrong h.at)) Stranger) ≡ Fits
-        → is_real (time_of h.tag (contents_of s h)) ≡ true
+        → cond a (cond (is_some (time_of 23 (contents_of s h))) Fits (Wrong h.at))
+        (cond b (cond (is_some (time_of 24 (contents_of s h))) Fits (Wrong h.at)) Stranger) ≡ Fits
+        → is_some (time_of h.tag (contents_of s h)) ≡ true
     by_tag true b p q e =
-        ap (λ (t : ℕ). is_real (time_of t (contents_of s h))) (sym (eqb-true 23 h.tag p)) ∙ passed h.at
-        (is_real (time_of 23 (contents_of s h))) e
+        ap (λ (t : ℕ). is_some (time_of t (contents_of s h))) (sym (eqb-true 23 h.tag p)) ∙ passed h.at
+        (is_some (time_of 23 (contents_of s h))) e
     by_tag false true p q e =
-        ap (λ (t : ℕ). is_real (time_of t (contents_of s h))) (sym (eqb-true 24 h.tag q)) ∙ passed h.at
-        (is_real (time_of 24 (contents_of s h))) e
+        ap (λ (t : ℕ). is_some (time_of t (contents_of s h))) (sym (eqb-true 24 h.tag q)) ∙ passed h.at
+        (is_some (time_of 24 (contents_of s h))) e
     by_tag false false p q e = cc
 
 -- ---- the two times of a Validity

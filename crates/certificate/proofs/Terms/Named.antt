@@ -4,6 +4,7 @@ use mathlib.Core.Bool.{Bool, true, false}
 use mathlib.Core.List.{List, [], ◌∷◌, ◌++◌, Memᴰ}
 use Prim.Native.Nat.{ℕ}
 use lib.ListN.{length}
+use Rattle.std.specs.Prelude.{Some}
 use Rattle.certificate.specs.Fields.{certificate_of}
 use Rattle.certificate.specs.Key.{key_of}
 use Rattle.certificate.specs.Extensions.{slot_of, extension_of}
@@ -20,7 +21,6 @@ use Rattle.der.specs.declared.walk.Soundness.TheVariants.{Sound}
 use Rattle.der.specs.Tags.{sequence_tag}
 use Rattle.der.specs.declared.header.Head.{Head}
 use Rattle.times.specs.Reads.{time_of}
-use Rattle.times.specs.declared.reading.Reading.TheVariants.{Is}
 use Rattle.der.specs.Members.{members_in, missing, first_in}
 
 -- the [0] comes first, if the version is written; else the serial number does
@@ -47,8 +47,8 @@ pub record Named (s : List ℕ) : Type 0 where
   pub key : (certificate_of s).key ≡ fields.key
   pub extensions : ExtensionsNamed s (certificate_of s).extensions (certificate_of s).tbs.end fields.extended
   pub times : children_of s fields.period.body fields.period.end ≡ (certificate_of s).not_before ∷ (certificate_of s).not_after ∷ []
-  pub before : time_of (certificate_of s).not_before.tag (contents_of s (certificate_of s).not_before) ≡ Is (certificate_of s).validity.not_before
-  pub later : time_of (certificate_of s).not_after.tag (contents_of s (certificate_of s).not_after) ≡ Is (certificate_of s).validity.not_after
+  pub before : time_of (certificate_of s).not_before.tag (contents_of s (certificate_of s).not_before) ≡ Some (certificate_of s).validity.not_before
+  pub later : time_of (certificate_of s).not_after.tag (contents_of s (certificate_of s).not_after) ≡ Some (certificate_of s).validity.not_after
 
 -- ---- an Extension
 

@@ -4,6 +4,7 @@ use mathlib.Core.List.{List}
 use mathlib.Core.Bool.{Bool, true, false}
 use Prim.Native.Nat.{ℕ}
 use native.Mathlib.Omega.{arith}
+use Rattle.std.specs.Prelude.{Some, None}
 use lib.ListN.{length}
 use lib.Seq.{take_all}
 use Rattle.octets.specs.Octets.{octets_from}
@@ -12,7 +13,6 @@ use Rattle.octets.proofs.Laws.Octets.{octets_inside}
 use Rattle.texts.specs.Texts.{word}
 use Rattle.lint.specs.declared.reasons.Side.TheVariants.{Certificate, Issuer}
 use Rattle.deckget.specs.Sides.{side_named}
-use Rattle.deckget.specs.declared.sides.Choice.TheVariants.{Known, Unknown}
 
 module _ (text : List ℕ) where
   abbrev pub is : List ℕ → Bool
@@ -23,14 +23,14 @@ module _ (text : List ℕ) where
       let all : octets_from text 0 (length text) ≡ text = octets_inside text 0 (length text) (omega arith) ∙ take_all (length text) text (omega arith) in
       rw all at e
 
-  pub names_certificate : is (word "certificate") ≡ true → Known Certificate ≡ side_named text
+  pub names_certificate : is (word "certificate") ≡ true → Some Certificate ≡ side_named text
   unfolding side_named
   names_certificate e = rw (whole _ _ e)
 
-  pub names_issuer : is (word "certificate") ≡ false → is (word "issuer") ≡ true → Known Issuer ≡ side_named text
+  pub names_issuer : is (word "certificate") ≡ false → is (word "issuer") ≡ true → Some Issuer ≡ side_named text
   unfolding side_named
   names_issuer n e = rw (whole _ _ n, whole _ _ e)
 
-  pub names_neither : is (word "certificate") ≡ false → is (word "issuer") ≡ false → Unknown ≡ side_named text
+  pub names_neither : is (word "certificate") ≡ false → is (word "issuer") ≡ false → None ≡ side_named text
   unfolding side_named
   names_neither n e = rw (whole _ _ n, whole _ _ e)

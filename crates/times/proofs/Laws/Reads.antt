@@ -2,12 +2,11 @@
 --     content_past                             an octet past the end of the contents is 0
 --     digits_good, digits_bad, digits_done     digits from the kth on
 --     digit_at, two_law                        one of the first digits; the number of two, by their low four bits
---     real_law                                 a time, if it is well written and its date a real one
 --     written_law                              where it is not well written, its date does not count
 -- Assumes nothing.
 use mathlib.Core.Path.{◌≡◌, refl, ap}
 use mathlib.Core.List.{List, [], ◌∷◌}
-use mathlib.Core.Bool.{Bool, true, false, cond, ◌&&◌}
+use mathlib.Core.Bool.{Bool, true, false, ◌&&◌}
 use Prim.Native.Nat.{ℕ, zero, suc, ◌+◌, ◌-◌, ◌*◌, ◌%◌, ◌≤◌, ◌<◌}
 use Prim.Native.Char.{code}
 use native.Mathlib.Nat.{zero-add}
@@ -15,11 +14,7 @@ use native.Mathlib.Omega.{arith}
 use lib.Dec.{leb, eqb}
 use lib.ListN.{length}
 use borrow.Author.Tests.{leb-true}
-use Rattle.times.specs.declared.calendar.Date.{Date}
 use Rattle.times.specs.declared.validity.Time.{Time}
-use Rattle.times.specs.declared.reading.Reading.TheVariants.{Is, Bad}
-use Rattle.times.specs.Calendar.{date_ok}
-use Rattle.times.specs.Validity.{date_of}
 use Rattle.times.specs.Reads.{digits_first, digits_and_z, two_at, if_real}
 use Rattle.octets.specs.Octets.{octet_at, octets_from}
 use Rattle.octets.specs.Characters.{is_digit, are_digits, digit_of}
@@ -69,11 +64,6 @@ digit_low b d =
 pub two_law : (c : List ℕ) (k x y : ℕ) → x ≡ octet_at c k → y ≡ octet_at c (k + 1) → is_digit (octet_at c k) ≡ true → is_digit (octet_at c (k + 1)) ≡ true
     → 10 * (x % 16) + y % 16 ≡ two_at k c
 two_law c k x y e f d g = rw (e, f, digit_low (octet_at c k) d, digit_low (octet_at c (k + 1)) g)
-
-pub real_law : (written real : Bool) (d : Date) (t : Time) (good : Bool) → d ≡ date_of t → real ≡ date_ok d → (written && real) ≡ good
-    → cond good (Is t) Bad ≡ if_real written t
-unfolding if_real
-real_law written real d t good e r h = rw (← e, ← r, h)
 
 real_if : (written : Bool) (t u : Time) → (written ≡ true → t ≡ u) → if_real written t ≡ if_real written u
 unfolding if_real

@@ -1,2 +1,0 @@
--- Laws of the definitions, by file.
-pub mod Reading

@@ -1,2 +1,0 @@
--- Laws of the definitions, which programs cite.
-pub mod Laws
