@@ -26,14 +26,7 @@ fn is_as_in(f: u8, c: u8) -> bool
 fn has_form(form: &[u8], s: &[u8], at: usize, n: usize) -> bool
     ensures { result ≡ has_form (octets_from form.now 0 n) (octets_from s.now at n) }
 {
-    let mut k = 0;
-    while k < n {
-        if !is_as_in(octets::octet_past(form, 0, k), octets::octet_past(s, at, k)) {
-            return false;
-        }
-        k += 1;
-    }
-    true
+    octets::all_beside(form, 0, s, at, n, |f, c| is_as_in(f, c))
 }
 
 // Whether a name is a URI that says a UUID. The length decides for most, before the form is laid out.

@@ -39,14 +39,12 @@ pub fn is_record_length(n: usize) -> bool
 pub fn is_filled(block: &[u8], used: usize) -> bool
     ensures { result ≡ are_zero (drop used (data_of block.now)) }
 {
-    let mut i = used;
-    while i < 502 {
-        if octets::octet_past(block, 8, i) != 0 {
-            return false;
-        }
-        i += 1;
-    }
-    true
+    octets::all(
+        block,
+        used.saturating_add(8),
+        octets::minus(502, used),
+        |b| b == 0,
+    )
 }
 
 // How many parts a record of n octets has.

@@ -28,14 +28,7 @@ pub fn is_plain(host: Host) -> bool
 fn has_octet(s: &[u8], x: u8, body: usize, n: usize) -> bool
     ensures { result ≡ is_one_of x (octets_from s.now body n) }
 {
-    let mut k = 0;
-    while k < n {
-        if octets::octet_past(s, body, k) == x {
-            return true;
-        }
-        k += 1;
-    }
-    false
+    octets::any(s, body, n, |b| b == x)
 }
 
 // Rule 413: a dNSName with an underscore.

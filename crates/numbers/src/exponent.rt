@@ -20,14 +20,7 @@ pub fn odd(s: &[u8], body: usize, end: usize) -> bool
 fn all_ones(s: &[u8], at: usize, end: usize) -> bool
     ensures { result ≡ all_ones (octets_from s.now at (end - at)) }
 {
-    let mut i = at;
-    while i < end {
-        if octets::octet(s, i) != 255 {
-            return false;
-        }
-        i += 1;
-    }
-    true
+    octets::all(s, at, octets::minus(end, at), |b| b == 255)
 }
 
 // Whether the number is below 2^256 - 1.

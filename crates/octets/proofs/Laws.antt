@@ -5,6 +5,7 @@ pub mod Parts
 pub mod Numbers
 pub mod Same
 pub mod Places
+pub mod Stretches
 pub mod Copying
 pub mod Writing
 pub mod Finite

@@ -4,5 +4,5 @@ pub mod Numbers
 pub mod Characters
 pub mod Same
 pub mod Places
+pub mod Stretches
 pub mod Copying
-pub mod Workings

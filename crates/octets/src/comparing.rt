@@ -2,26 +2,8 @@
 ghost use Rattle.std.specs.Prelude.{◌≡◌};
 ghost use Rattle.octets.specs.Octets.{octets_from};
 ghost use Rattle.octets.specs.Same.{same_by, exactly, lower_case};
-ghost use Rattle.octets.specs.Workings.Same.{fold_of};
 
-use crate::reading::octet_past;
-
-// What two octets are held to.
-#[derive(Clone, Copy)]
-pub enum Letters {
-    Exact,
-    AnyCase,
-}
-
-// An octet as it is compared: the octet itself, or a letter in lower case.
-fn fold(letters: Letters, b: u8) -> u8
-    ensures { result ≡ fold_of letters b }
-{
-    match letters {
-        Letters::Exact => b,
-        Letters::AnyCase => lower_case(b),
-    }
-}
+use crate::stretches::all_beside;
 
 // A to Z become a to z.
 pub fn lower_case(b: u8) -> u8
@@ -33,33 +15,18 @@ pub fn lower_case(b: u8) -> u8
     if b <= b'Z' { b + 32 } else { b }
 }
 
-fn same_by(letters: Letters, s: &[u8], a: usize, t: &[u8], b: usize, n: usize) -> bool
-    ensures { result ≡ same_by (fold_of letters) (octets_from s.now a n) (octets_from t.now b n) }
-{
-    let mut k = 0;
-    while k < n {
-        let x = fold(letters, octet_past(s, a, k));
-        let y = fold(letters, octet_past(t, b, k));
-        if x != y {
-            return false;
-        }
-        k += 1;
-    }
-    true
-}
-
 // Whether the n octets from a on in s are those from b on in t.
 pub fn same(s: &[u8], a: usize, t: &[u8], b: usize, n: usize) -> bool
     ensures { result ≡ same_by exactly (octets_from s.now a n) (octets_from t.now b n) }
 {
-    same_by(Letters::Exact, s, a, t, b, n)
+    all_beside(s, a, t, b, n, |x, y| x == y)
 }
 
 // The same with the case of ASCII letters ignored.
 pub fn same_ignoring_case(s: &[u8], a: usize, t: &[u8], b: usize, n: usize) -> bool
     ensures { result ≡ same_by lower_case (octets_from s.now a n) (octets_from t.now b n) }
 {
-    same_by(Letters::AnyCase, s, a, t, b, n)
+    all_beside(s, a, t, b, n, |x, y| lower_case(x) == lower_case(y))
 }
 
 // Whether the n octets from `at` on are the byte string `text`.

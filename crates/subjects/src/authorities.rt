@@ -1,32 +1,17 @@
 // Rule 122: the common name of a subordinate authority, words with a number behind them.
-ghost use Rattle.std.specs.Prelude.{◌≡◌, ◌+◌, ◌-◌};
-ghost use Rattle.octets.specs.Characters.{are_digits};
+ghost use Rattle.std.specs.Prelude.{◌≡◌};
 ghost use Rattle.octets.specs.Octets.{octets_from};
 ghost use Rattle.subjects.specs.Authorities.{is_number_from_one, is_numbered, says_authority, is_other_authority};
 
 use crate::types::{arc_of, attribute_value};
 use der::Head;
 
-// Whether of the n octets from `body` on those behind the first `skip` are digits.
-fn are_digits(s: &[u8], body: usize, skip: usize, n: usize) -> bool
-    ensures { result ≡ are_digits (octets_from s.now (body + skip) (n - skip)) }
+// Whether the n octets from `at` on are a decimal number from 1 without leading zeros. (It may have any number of digits.)
+fn is_number_from_one(s: &[u8], at: usize, n: usize) -> bool
+    ensures { result ≡ is_number_from_one (octets_from s.now at n) }
 {
-    let mut k = skip;
-    while k < n {
-        if !octets::is_digit(octets::octet_past(s, body, k)) {
-            return false;
-        }
-        k += 1;
-    }
-    true
-}
-
-// Whether they are a decimal number from 1 without leading zeros. (It may have any number of digits.)
-fn is_number_from_one(s: &[u8], body: usize, skip: usize, n: usize) -> bool
-    ensures { result ≡ is_number_from_one (octets_from s.now (body + skip) (n - skip)) }
-{
-    let first = octets::octet_past(s, body, skip);
-    (skip < n) & (!(first == b'0') & are_digits(s, body, skip, n))
+    let first = octets::octet(s, at);
+    (0 < n) & (!(first == b'0') & octets::all(s, at, n, |b| octets::is_digit(b)))
 }
 
 // Whether the n octets from `body` on are these words with such a number behind them.
@@ -34,7 +19,8 @@ fn is_numbered(s: &[u8], body: usize, n: usize, words: &[u8]) -> bool
     ensures { result ≡ is_numbered words.now (octets_from s.now body n) }
 {
     let size = words.len();
-    octets::equals(s, body, size, words) & is_number_from_one(s, body, size, n)
+    let begins = octets::equals(s, body, size, words);
+    begins & is_number_from_one(s, body.saturating_add(size), octets::minus(n, size))
 }
 
 // Whether a value is a PrintableString that names an authority.

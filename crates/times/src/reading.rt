@@ -23,14 +23,7 @@ fn content(s: &[u8], body: usize, n: usize, k: usize) -> u8
 fn digits_first(s: &[u8], body: usize, n: usize, digits: usize) -> bool
     ensures { result ≡ digits_first digits (octets_from s.now body n) }
 {
-    let mut k = 0;
-    while k < digits {
-        if !octets::is_digit(content(s, body, n, k)) {
-            return false;
-        }
-        k += 1;
-    }
-    true
+    (digits <= n) & octets::all(s, body, digits, |b| octets::is_digit(b))
 }
 
 fn digits_and_z(s: &[u8], body: usize, n: usize, digits: u8) -> bool

@@ -48,25 +48,11 @@ fn other_in_first(bits: u8, allowed: u8) -> bool
                             | odd_alone(bits / 64, allowed / 64))))))
 }
 
-// Whether an octet has a bit that is set.
-fn any_bit(bits: u8) -> bool
-    ensures { result ≡ any_below (bit_at (bits ∷ [])) 8 }
-{
-    !(bits == 0)
-}
-
 // Whether a bit is set in an octet after the first two of the n from place `body` on.
 fn any_later(s: &[u8], body: usize, n: usize) -> bool
     ensures { result ≡ any_set (octets_from s.now (body + 2) (n - 2)) }
 {
-    let mut k = 2;
-    while k < n {
-        if any_bit(octets::octet_past(s, body, k)) {
-            return true;
-        }
-        k += 1;
-    }
-    false
+    octets::any(s, body.saturating_add(2), octets::minus(n, 2), |b| b != 0)
 }
 
 // Whether the BIT STRING with n contents octets from place `body` on has a bit that may not be set.

@@ -1,40 +1,28 @@
 -- Texts held to a form.
---     form_done, form_next, form_apart     from their kth characters on: none left; one that is as in the form; one that is not
---     uuid_read, uuid_none                 a name by its tag, its length and its characters; one of another tag or length
+--     beside_form              each character tested together with the form's beside it
+--     uuid_read, uuid_none     a name by its tag, its length and its characters; one of another tag or length
 -- Assumes nothing.
 use mathlib.Core.Path.{◌≡◌, refl, sym, ap, ◌∙◌}
 use mathlib.Core.List.{List, [], ◌∷◌}
 use mathlib.Core.Bool.{Bool, true, false, ◌&&◌}
-use Prim.Native.Nat.{ℕ, suc, ◌+◌, ◌-◌, ◌≤◌, ◌<◌}
+use Prim.Native.Nat.{ℕ, zero, suc, ◌+◌, ◌-◌}
 use lib.ListN.{length}
 use lib.Dec.{eqb}
 use borrow.Author.Tests.{eqb-true, eqb-false}
+use Rattle.std.specs.List.{list_all, zip}
 use Rattle.badges.specs.Uuids.{uuid_form, is_as_in, has_form, is_uuid_uri}
 use Rattle.locations.specs.Uris.{is_uri}
 use Rattle.texts.specs.Texts.{word}
 use Rattle.octets.specs.Octets.{octet_at, octets_from}
-use Rattle.octets.proofs.Laws.Octets.{octets_done, octets_next, octets_long, octets_whole}
+use Rattle.octets.proofs.Laws.Octets.{octets_long, octets_whole}
 use Rattle.octets.proofs.Laws.Tests.{and_l, and_r}
 use Rattle.der.specs.declared.header.Head.{Head}
 
-pub form_done : (form s : List ℕ) (a b n k : ℕ) → n ≤ k → has_form (octets_from form (a + k) (n - k)) (octets_from s (b + k) (n - k)) ≡ true
-unfolding has_form
-form_done form s a b n k h = rw (octets_done form a n k h, octets_done s b n k h)
-
--- f and c are the kth characters, and is says whether c is as in the form
-module _ (form s : List ℕ) (a b n k f c : ℕ) (is : Bool) (h : k < n) (p : f ≡ octet_at form (a + k)) (q : c ≡ octet_at s (b + k))
-    (e : is ≡ is_as_in f c) where
-  form_split : has_form (octets_from form (a + k) (n - k)) (octets_from s (b + k) (n - k)) ≡ (is && has_form (octets_from form (a + (k + 1)) (n - (k + 1)))
-      (octets_from s (b + (k + 1)) (n - (k + 1))))
-  unfolding has_form
-  form_split = rw (octets_next form a n k h, octets_next s b n k h, ← p, ← q, e)
-
-  pub form_next : is ≡ true → has_form (octets_from form (a + k) (n - k)) (octets_from s (b + k) (n - k)) ≡ has_form
-      (octets_from form (a + (k + 1)) (n - (k + 1))) (octets_from s (b + (k + 1)) (n - (k + 1)))
-  form_next t = form_split ∙ rw t
-
-  pub form_apart : is ≡ false → has_form (octets_from form (a + k) (n - k)) (octets_from s (b + k) (n - k)) ≡ false
-  form_apart t = form_split ∙ rw t
+pub beside_form : (form s : List ℕ) (a b n : ℕ)
+    → list_all (λ pair. is_as_in pair.0 pair.1) (zip (octets_from form a n) (octets_from s b n)) ≡ has_form (octets_from form a n) (octets_from s b n)
+unfolding octets_from has_form
+beside_form form s a b zero = refl
+beside_form form s a b (suc n) = ap (λ r. is_as_in (octet_at form a) (octet_at s b) && r) (beside_form form s (a + 1) (b + 1) n)
 
 form_length : (form text : List ℕ) → (length form ≡ length text → ⊥) → has_form form text ≡ false
 unfolding has_form

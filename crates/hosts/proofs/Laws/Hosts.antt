@@ -1,5 +1,4 @@
 -- Host names: the labels judged in one pass.
---     has_done, has_found, has_next      octets from the kth on, searched for one
 --     scanned                            the labels judged in one pass
 --     labels_some                        a name has a label
 --     scan_labels                        the labels judged one by one are those judged in one pass
@@ -14,11 +13,11 @@ use Prim.Native.Nat.{ℕ, suc, ◌+◌, ◌-◌, ◌≤◌, ◌<◌}
 use native.Mathlib.Omega.{arith}
 use lib.ListN.{length}
 use lib.Dec.{leb, ltb, eqb}
-use borrow.Author.Tests.{eq-eqb, ne_eqb, eqb-true, le-leb, lt-leb, ltb-true, ltb-false}
+use borrow.Author.Tests.{ne_eqb, eqb-true, le-leb, lt-leb, ltb-true, ltb-false}
 use Rattle.hosts.specs.Hosts.{label_octet, label_octets, label_ok, labels_from, labels_of, labels_ok, host_of}
 use Rattle.hosts.specs.Workings.Scanning.{may_end, may_grow, may_follow, size_after}
 use Rattle.hosts.specs.declared.hosts.Host.TheVariants.{Plain, Neither}
-use Rattle.octets.specs.Octets.{is_one_of, octet_at, octets_from}
+use Rattle.octets.specs.Octets.{octet_at, octets_from}
 use Rattle.octets.proofs.Laws.Octets.{octets_done, octets_next, octets_long}
 use Rattle.der.specs.Contents.{last_of}
 
@@ -26,21 +25,6 @@ use Rattle.der.specs.Contents.{last_of}
 unfoldable pub scanned : ℕ → ℕ → Bool → List ℕ → Bool
 scanned size last dotted [] = dotted && may_end size last
 scanned size last dotted (b ∷ bs) = may_follow size last b && scanned (size_after size b) b (dotted || eqb b 46) bs
-
--- ---- octets searched for x
-
-pub has_done : (s : List ℕ) (x body n k : ℕ) → n ≤ k → is_one_of x (octets_from s (body + k) (n - k)) ≡ false
-unfolding is_one_of
-has_done s x body n k l = rw (octets_done s body n k l)
-
-module _ (s : List ℕ) (x body n k b : ℕ) (l : k < n) (e : b ≡ octet_at s (body + k)) where
-  pub has_found : b ≡ x → is_one_of x (octets_from s (body + k) (n - k)) ≡ true
-  unfolding is_one_of
-  has_found f = rw (octets_next s body n k l, ← e, eq-eqb b x f)
-
-  pub has_next : (b ≡ x → ⊥) → is_one_of x (octets_from s (body + k) (n - k)) ≡ is_one_of x (octets_from s (body + (k + 1)) (n - (k + 1)))
-  unfolding is_one_of
-  has_next f = rw (octets_next s body n k l, ← e, ne_eqb b x f)
 
 -- ---- a label so far
 

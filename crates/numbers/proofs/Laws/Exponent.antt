@@ -1,22 +1,23 @@
 -- Whether a number is odd, and a number against 2 ^ (8 c) less 1, which c octets of FF say.
 --     odd_is, odd_none                    by the last octet
---     ones_more, ones_less, ones_done     the loop over octets that are FF
+--     ones_all                            each octet is FF
 --     max_short, max_even, max_long       by how many octets the number has
 -- Assumes nothing.
 use mathlib.Core.Path.{◌≡◌, refl, sym, ap, ◌∙◌}
-use mathlib.Core.List.{List}
+use mathlib.Core.List.{List, [], ◌∷◌}
 use mathlib.Core.Bool.{Bool, true, false, not, ◌&&◌}
 use Prim.Native.Nat.{ℕ, zero, suc, ◌+◌, ◌-◌, ◌*◌, ◌%◌, ◌^◌, ◌≤◌, ◌<◌}
 use native.Mathlib.Nat.{mul-le-mul_right, le_trans, add-zero}
 use native.Mathlib.Omega.{arith}
 use lib.Pow.{pow-add, pow_mono, pow_pos}
 use lib.Dec.{ltb, eqb}
-use borrow.Author.Tests.{lt-ltb, le-ltb, eq-eqb, ne_eqb, eqb-true, eqb-false}
+use borrow.Author.Tests.{lt-ltb, le-ltb, eqb-true, eqb-false}
+use Rattle.std.specs.List.{list_all}
 use Rattle.numbers.specs.Numbers.{number, is_odd}
 use Rattle.numbers.specs.Workings.Leading.{lead_of, all_ones}
 use Rattle.octets.specs.Octets.{Octets, octet_at, octets_from}
 use Rattle.octets.specs.Numbers.{number_from}
-use Rattle.numbers.proofs.Laws.Values.{octets_none, octets_first, pow_octet, value_top, value_below, number_top, number_below, number_none}
+use Rattle.numbers.proofs.Laws.Values.{pow_octet, value_top, value_below, number_top, number_below, number_none}
 use Rattle.numbers.proofs.Laws.Leading.{leads}
 
 parity : (s : List ℕ) (n i m : ℕ) → number_from m (octets_from s i (suc n)) % 2 ≡ octet_at s (i + n) % 2
@@ -37,18 +38,10 @@ odd_none s body end h = rw (number_none s body end h)
 
 -- ---- a number against 2^256 - 1
 
-module _ (s : List ℕ) (i end b : ℕ) (h : i < end) (e : b ≡ octet_at s i) where
-  pub ones_more : b ≡ 255 → all_ones (octets_from s i (end - i)) ≡ all_ones (octets_from s (i + 1) (end - (i + 1)))
-  unfolding all_ones
-  ones_more z = rw (octets_first s i end h, ← e, eq-eqb b 255 z)
-
-  pub ones_less : (b ≡ 255 → ⊥) → all_ones (octets_from s i (end - i)) ≡ false
-  unfolding all_ones
-  ones_less z = rw (octets_first s i end h, ← e, ne_eqb b 255 z)
-
-pub ones_done : (s : List ℕ) (i end : ℕ) → end ≤ i → all_ones (octets_from s i (end - i)) ≡ true
+pub ones_all : (bs : List ℕ) → list_all (λ b. eqb b 255) bs ≡ all_ones bs
 unfolding all_ones
-ones_done s i end h = rw (octets_none s i end h)
+ones_all [] = refl
+ones_all (b ∷ bs) = ap (λ r. eqb b 255 && r) (ones_all bs)
 
 never : false ≡ true → ⊥
 never e = let z : ◌≡◌ {A = ℕ} 0 1 = cc in omega arith

@@ -1,53 +1,32 @@
 -- Names of authorities, as they are read: words, and a number behind them.
---     digits_done, digits_stop, digits_next      octets from the kth on, tested for digits
---     number_read                                a number from 1, by its first octet and the test for digits
---     numbered_read                              words and such a number, each at its place
+--     number_read       a number from 1, by its first octet and the test for digits
+--     numbered_read     words and such a number, each at its place
 -- Assumes nothing.
 use mathlib.Core.Path.{◌≡◌, refl, ap, ◌∙◌}
 use mathlib.Core.List.{List, [], ◌++◌}
 use mathlib.Core.Bool.{Bool, true, false, not, ◌&&◌}
-use Prim.Native.Nat.{ℕ, ◌+◌, ◌-◌, ◌≤◌, ◌<◌}
+use Prim.Native.Nat.{ℕ, zero, suc, ◌+◌, ◌-◌, ◌≤◌, ◌<◌}
 use native.Mathlib.Omega.{arith}
 use lib.ListN.{length, take, drop, drop_of_length-le}
 use lib.Seq.{drop_at}
 use lib.Dec.{ltb, eqb}
-use borrow.Author.Tests.{ltb-true, ltb-false, not-true, not-false}
+use borrow.Author.Tests.{ltb-true, ltb-false, lt-ltb}
+use Rattle.std.specs.List.{list_all}
 use Rattle.subjects.specs.Authorities.{is_number_from_one, is_numbered}
-use Rattle.octets.specs.Characters.{is_digit, are_digits}
+use Rattle.octets.specs.Characters.{is_digit}
 use Rattle.octets.specs.Octets.{octet_at, octets_from}
 use Rattle.octets.specs.Same.{same_by, exactly}
-use Rattle.octets.proofs.Laws.Octets.{octets_done, octets_next, octets_long}
+use Rattle.octets.proofs.Laws.Octets.{octets_done, octets_long}
+use Rattle.octets.proofs.Laws.Stretches.{digits_all}
 use Rattle.octets.proofs.Laws.Parts.{part_same, part_join, part_first}
-
--- ---- octets tested for digits
-
-pub digits_done : (s : List ℕ) (body n k : ℕ) → n ≤ k → are_digits (octets_from s (body + k) (n - k)) ≡ true
-unfolding are_digits
-digits_done s body n k l = rw (octets_done s body n k l)
-
--- b is the kth octet, and d says whether it is a digit
-module _ (s : List ℕ) (body n k b : ℕ) (d : Bool) (l : k < n) (e : b ≡ octet_at s (body + k)) (f : d ≡ is_digit b) where
-  pub digits_stop : not d ≡ true → are_digits (octets_from s (body + k) (n - k)) ≡ false
-  unfolding are_digits
-  digits_stop t = rw (octets_next s body n k l, ← e, ← f, not-true d t)
-
-  pub digits_next : not d ≡ false → are_digits (octets_from s (body + k) (n - k)) ≡ are_digits (octets_from s (body + (k + 1)) (n - (k + 1)))
-  unfolding are_digits
-  digits_next t = rw (octets_next s body n k l, ← e, ← f, not-false d t)
 
 -- ---- a number
 
-number_there : (s : List ℕ) (body skip n : ℕ) (t : Bool) → ltb skip n ≡ t
-    → (t && (not (eqb (octet_at s (body + skip)) 48) && are_digits (octets_from s (body + skip) (n - skip))))
-    ≡ is_number_from_one (octets_from s (body + skip) (n - skip))
-unfolding is_number_from_one
-number_there s body skip n true t = rw (octets_next s body n skip (ltb-true skip n t))
-number_there s body skip n false t = rw (octets_done s body n skip (ltb-false skip n t))
-
-pub number_read : (s : List ℕ) (body skip n first : ℕ) (digits : Bool) → first ≡ octet_at s (body + skip)
-    → digits ≡ are_digits (octets_from s (body + skip) (n - skip))
-    → (ltb skip n && (not (eqb first 48) && digits)) ≡ is_number_from_one (octets_from s (body + skip) (n - skip))
-number_read s body skip n first digits e f = rw (e, f) (number_there s body skip n (ltb skip n) refl)
+pub number_read : (s : List ℕ) (at n first : ℕ) (digits : Bool) → first ≡ octet_at s at → digits ≡ list_all is_digit (octets_from s at n)
+    → (ltb 0 n && (not (eqb first 48) && digits)) ≡ is_number_from_one (octets_from s at n)
+unfolding is_number_from_one octets_from
+number_read s at zero first digits e f = refl
+number_read s at (suc n) first digits e f = rw (e, f, lt-ltb 0 (suc n) (omega arith), digits_all (octets_from s at (suc n)))
 
 -- ---- words before it
 

@@ -1,10 +1,10 @@
 -- The contents of a time, octet by octet.
 --     content_past                             an octet past the end of the contents is 0
---     digits_good, digits_bad, digits_done     digits from the kth on
+--     digits_read                              the first octets tested for digits
 --     digit_at, two_law                        one of the first digits; the number of two, by their low four bits
 --     written_law                              where it is not well written, its date does not count
 -- Assumes nothing.
-use mathlib.Core.Path.{◌≡◌, refl, ap}
+use mathlib.Core.Path.{◌≡◌, refl, sym, ap, ◌∙◌}
 use mathlib.Core.List.{List, [], ◌∷◌}
 use mathlib.Core.Bool.{Bool, true, false, ◌&&◌}
 use Prim.Native.Nat.{ℕ, zero, suc, ◌+◌, ◌-◌, ◌*◌, ◌%◌, ◌≤◌, ◌<◌}
@@ -13,34 +13,21 @@ use native.Mathlib.Nat.{zero-add}
 use native.Mathlib.Omega.{arith}
 use lib.Dec.{leb, eqb}
 use lib.ListN.{length}
-use borrow.Author.Tests.{leb-true}
+use borrow.Author.Tests.{leb-true, leb-false}
+use Rattle.std.specs.List.{list_all}
 use Rattle.times.specs.declared.validity.Time.{Time}
 use Rattle.times.specs.Reads.{digits_first, digits_and_z, two_at, if_real}
 use Rattle.octets.specs.Octets.{octet_at, octets_from}
 use Rattle.octets.specs.Characters.{is_digit, are_digits, digit_of}
-use Rattle.octets.proofs.Laws.Octets.{past, octets_done, octets_next, octets_long, octets_at}
+use Rattle.octets.proofs.Laws.Octets.{past, octets_long, octets_at, octets_inside}
+use Rattle.octets.proofs.Laws.Parts.{part_first}
+use Rattle.octets.proofs.Laws.Stretches.{digits_all}
 use Rattle.octets.proofs.Laws.Tests.{and_l, and_r}
 
 pub content_past : (s : List ℕ) (body n k : ℕ) → n ≤ k → 0 ≡ octet_at (octets_from s body n) k
 content_past s body n k h =
     let l : length (octets_from s body n) ≤ k = rw (octets_long s body n) h in
     past (octets_from s body n) k l
-
--- b is the kth of the octets c, of which the first n are looked at
-module _ (c : List ℕ) (n k b : ℕ) (good : Bool) (h : k < n) (e : b ≡ octet_at c k) (g : good ≡ is_digit b) where
-  digits_next : are_digits (octets_from c k (n - k)) ≡ (good && are_digits (octets_from c (k + 1) (n - (k + 1))))
-  unfolding are_digits
-  digits_next = let next = simp zero-add at (octets_next c 0 n k h) in rw (next, g, e)
-
-  pub digits_bad : good ≡ false → are_digits (octets_from c k (n - k)) ≡ false
-  digits_bad f = cc digits_next
-
-  pub digits_good : good ≡ true → are_digits (octets_from c k (n - k)) ≡ are_digits (octets_from c (k + 1) (n - (k + 1)))
-  digits_good f = cc digits_next
-
-pub digits_done : (c : List ℕ) (n k : ℕ) → n ≤ k → are_digits (octets_from c k (n - k)) ≡ true
-unfolding are_digits
-digits_done c n k h = let done = simp zero-add at (octets_done c 0 n k h) in rw done
 
 digit_in : (bs : List ℕ) (k : ℕ) → are_digits bs ≡ true → k < length bs → is_digit (octet_at bs k) ≡ true
 unfolding are_digits
@@ -53,6 +40,21 @@ digit_at c digits k d h =
     let l : k < length (octets_from c 0 digits) = rw (octets_long c 0 digits) h in
     let e : octet_at (octets_from c 0 digits) k ≡ octet_at c k = simp zero-add at (octets_at c 0 digits k h) in
     rw e at (digit_in (octets_from c 0 digits) k d l)
+
+digits_whole : (s : List ℕ) (body n digits : ℕ) → digits ≤ n → octets_from (octets_from s body n) 0 digits ≡ octets_from s body digits
+digits_whole s body n digits h =
+    octets_inside (octets_from s body n) 0 digits (omega (arith, octets_long s body n)) ∙ part_first s body digits n h
+
+pub digits_read : (s : List ℕ) (body n digits : ℕ) (good : Bool) → good ≡ list_all is_digit (octets_from s body digits)
+    → (leb digits n && good) ≡ digits_first digits (octets_from s body n)
+digits_read s body n digits good e = go (leb digits n) refl (digits_first digits (octets_from s body n)) refl
+  where
+    go : (t : Bool) → leb digits n ≡ t → (d : Bool) → digits_first digits (octets_from s body n) ≡ d → (t && good) ≡ d
+    go true l d f = e ∙ (digits_all (octets_from s body digits) ∙ (sym (ap are_digits (digits_whole s body n digits (leb-true digits n l))) ∙ f))
+    go false l false f = refl
+    go false l true f =
+        let none : is_digit 0 ≡ true = rw (← content_past s body n n (omega arith)) at (digit_at (octets_from s body n) digits n f (leb-false digits n l)) in
+        cc none
 
 digit_low : (b : ℕ) → is_digit b ≡ true → b % 16 ≡ digit_of b
 digit_low b d =

@@ -2,7 +2,7 @@
 --     first_bit                              one of the first eight bits
 --     octet_bits                             an octet has a bit that is set unless it is 0
 --     first_bits                             the first octet's bits that may not be set, one by one
---     bits_done, bits_here, bits_later       any bit set in the octets of a stretch from its kth on
+--     set_any                                some octet has a bit that is set
 --     other_none, other_first, other_later   bits that may not be set: none; in the first octet; in those after it
 -- Assumes nothing.
 use mathlib.Core.Path.{◌≡◌, refl, sym, ap, ◌∙◌}
@@ -14,12 +14,12 @@ use native.Mathlib.Omega.{arith}
 use lib.ListN.{length}
 use lib.Dec.{ltb, eqb}
 use borrow.Author.Tests.{lt-ltb, le-ltb, ltb-true, ltb-false, ne_eqb, eqb-true, eqb-false}
+use Rattle.std.specs.List.{list_any}
 use Rattle.usages.specs.Usage.{bit_octets, bit_at, any_below, other_bit, other_bits, passing_below, bits_in}
 use Rattle.usages.specs.Workings.Usage.{any_set, odd_alone}
 use Rattle.octets.specs.Octets.{is_one_of}
 use Rattle.octets.specs.Octets.{octet_at, octets_from}
 use Rattle.octets.proofs.Laws.Finite.{all_below, all_below_lem, same, same_true}
-use Rattle.octets.proofs.Laws.Octets.{octets_done, octets_next}
 
 -- ---- tests of numbers
 
@@ -142,21 +142,16 @@ other_next : (b allowed : ℕ) (bits : List ℕ) → other_bits (b ∷ bits) (bi
 unfolding other_bits any_set any_below
 other_next b allowed bits = octet_next (other_bit (b ∷ bits) (bits_in allowed)) (bit_at bits) b bits (bit_other b allowed bits)
 
--- ---- the octets of a stretch from its kth on, which is b
+or_comm : (a b : Bool) → (a || b) ≡ (b || a)
+or_comm true b = sym (or-true b)
+or_comm false b = sym (or-false b)
 
-pub bits_done : (s : List ℕ) (a n k : ℕ) → n ≤ k → any_set (octets_from s (a + k) (n - k)) ≡ false
+pub set_any : (bs : List ℕ) → list_any (λ b. any_below (bit_at (b ∷ [])) 8) bs ≡ any_set bs
 unfolding any_set any_below
-bits_done s a n k h = rw (octets_done s a n k h)
-
-module _ (s : List ℕ) (a n k b : ℕ) (any : Bool) (h : k < n) (e : b ≡ octet_at s (a + k)) (f : any ≡ any_below (bit_at (b ∷ [])) 8) where
-  bits_next : any_set (octets_from s (a + k) (n - k)) ≡ (any_set (octets_from s (a + (k + 1)) (n - (k + 1))) || any)
-  bits_next = rw (octets_next s a n k h, ← e, f) (set_next b (octets_from s (a + (k + 1)) (n - (k + 1))))
-
-  pub bits_here : any ≡ true → any_set (octets_from s (a + k) (n - k)) ≡ true
-  bits_here t = bits_next ∙ rw t (or-true (any_set (octets_from s (a + (k + 1)) (n - (k + 1)))))
-
-  pub bits_later : any ≡ false → any_set (octets_from s (a + k) (n - k)) ≡ any_set (octets_from s (a + (k + 1)) (n - (k + 1)))
-  bits_later t = bits_next ∙ rw t (or-false (any_set (octets_from s (a + (k + 1)) (n - (k + 1)))))
+set_any [] = refl
+set_any (b ∷ bs) =
+    ap (λ r. any_below (bit_at (b ∷ [])) 8 || r) (set_any bs)
+    ∙ (or_comm (any_below (bit_at (b ∷ [])) 8) (any_set bs) ∙ sym (set_next b bs))
 
 -- ---- the contents, n octets from body on: b is the one after the first
 

@@ -1,71 +1,35 @@
-use mathlib.Core.Path.{◌≡◌, refl, sym, ap, ◌∙◌}
-use mathlib.Core.List.{List}
-use mathlib.Core.Bool.{false}
-use Prim.Native.Nat.{ℕ, ◌+◌, ◌-◌, ◌≤◌, ◌<◌}
-use native.Mathlib.Nat.{add-zero, sub-zero}
+use mathlib.Core.Path.{sym, ap, ◌∙◌}
+use mathlib.Core.Bool.{Bool, ◌||◌}
+use Prim.Native.Nat.{◌≤◌, ◌<◌}
 use native.Mathlib.Omega.{arith}
-use Rattle.hosts.specs.Names.{is_named}
-use Rattle.octets.specs.Octets.{octet_at, octets_from}
-use Rattle.octets.specs.Same.{lower_case}
-use Rattle.octets.proofs.Laws.Same.{same_done, same_next, same_apart}
-use Rattle.der.proofs.Laws.Any.{any_done, forward}
-use Rattle.hosts.proofs.Laws.Names.{named_skip, named_enter}
+use Rattle.hosts.specs.Names.{is_named, some_named}
+use Rattle.octets.specs.Octets.{octets_from}
+use Rattle.der.specs.Header.{children_of}
+use Rattle.der.proofs.Laws.Any.{any_done, any_next, forward}
 use Rattle.hosts.proofs.named.some_same.Goals as goal
 
-pub names-init : goal.names-init
-names-init c = (refl, refl)
-
-pub names-smaller-then-not-name-minus : goal.names-smaller-then-not-name-minus
-names-smaller-then-not-name-minus c =
-    let ahead : (c.names.i < c.head_at-name.result.end) × (c.head_at-name.result.end ≤ c.args.end) = forward _ _ _ c.head_at-name.result c.names-test.true c.head_at-name.ensures in
+pub loop-i-smaller : goal.loop-i-smaller
+loop-i-smaller c =
+    let ahead : (c.loop-i.i < c.head_at-name.result.end) × (c.head_at-name.result.end ≤ c.args.end) = forward _ _ _ c.head_at-name.result c.loop-i-test.true c.head_at-name.ensures in
     omega (arith, ahead)
 
-pub names-preserved-then-not-name-minus : goal.names-preserved-then-not-name-minus
-names-preserved-then-not-name-minus c = (
-  c.names.invariant.0,
-  c.names.invariant.1 ∙ named_skip _ _ _ _ _ _ _ c.names-test.true c.head_at-name.ensures
-      c.minus.ensures (c.if-not-name-minus.true),
-)
-
-pub loop-k-init : goal.loop-k-init
-loop-k-init c = (
-  c.names.invariant.0,
-  omega arith,
-  simp (add-zero, sub-zero) (c.names.invariant.1 ∙ named_enter _ _ _ _ _ _ _ c.names-test.true
-      c.head_at-name.ensures c.minus.ensures (c.if-not-name-minus.false)),
-)
-
-pub names-smaller : goal.names-smaller
-names-smaller c =
-    let ahead : (c.names.i < c.head_at-name.result.end) × (c.head_at-name.result.end ≤ c.args.end) = forward _ _ _ c.head_at-name.result c.names-test.true c.head_at-name.ensures in
-    omega (arith, ahead)
-
-pub names-preserved : goal.names-preserved
-names-preserved c =
-    let s : List ℕ = c.args.s.now in
-    let left : c.lower_case-x.result ≡ lower_case (octet_at s (c.args.a + c.loop-k.k)) = c.lower_case-x.ensures ∙ ap lower_case c.octet_past.ensures in
-    let right : c.lower_case-y.result ≡ lower_case (octet_at s (c.head_at-name.result.body + c.loop-k.k)) = c.lower_case-y.ensures ∙ ap lower_case c.octet_past-in-loop-k.ensures in
-    let inside : c.loop-k.k < c.args.n = omega arith in
-    let apart = same_apart lower_case s s _ _ _ _ _ _ inside left right c.if-x-y.true in
-    (c.loop-k.invariant.0, rw apart at c.loop-k.invariant.2)
-
-pub loop-k-preserved : goal.loop-k-preserved
-loop-k-preserved c =
-    let s : List ℕ = c.args.s.now in
-    let left : c.lower_case-x.result ≡ lower_case (octet_at s (c.args.a + c.loop-k.k)) = c.lower_case-x.ensures ∙ ap lower_case c.octet_past.ensures in
-    let right : c.lower_case-y.result ≡ lower_case (octet_at s (c.head_at-name.result.body + c.loop-k.k)) = c.lower_case-y.ensures ∙ ap lower_case c.octet_past-in-loop-k.ensures in
-    let inside : c.loop-k.k < c.args.n = omega arith in
-    let next = same_next lower_case s s _ _ _ _ _ _ inside left right c.if-x-y.false in
-    (c.loop-k.invariant.0, omega arith, rw next at c.loop-k.invariant.2)
-
-pub returns-after-names : goal.returns-after-names
-returns-after-names c =
+pub loop-i-preserved : goal.loop-i-preserved
+loop-i-preserved c =
     let a = c.args in
-    c.names.invariant.0 ∙ sym (c.names.invariant.1 ∙ any_done (is_named a.s.now (octets_from a.s.now a.a a.n)) a.s.now
-    c.names.i a.end c.names-test.false)
+    let name = c.head_at-name.result in
+    let rest = some_named a.s.now (octets_from a.s.now a.a a.n) (children_of a.s.now name.end a.end) in
+    c.loop-i.invariant ∙ any_next (is_named a.s.now (octets_from a.s.now a.a a.n)) a.s.now c.loop-i.i a.end name c.loop-i-test.true c.head_at-name.ensures
+    ∙ ap (λ (b : Bool). b || rest) (sym c.is_named.ensures ∙ c.if-is_named.false)
 
-pub returns-then-k-n : goal.returns-then-k-n
-returns-then-k-n c =
+pub returns-then-is_named : goal.returns-then-is_named
+returns-then-is_named c =
     let a = c.args in
-    let done = same_done lower_case a.s.now a.s.now a.a c.head_at-name.result.body a.n c.loop-k.k (omega arith) in
-    sym (rw done at c.loop-k.invariant.2)
+    let name = c.head_at-name.result in
+    let rest = some_named a.s.now (octets_from a.s.now a.a a.n) (children_of a.s.now name.end a.end) in
+    sym (c.loop-i.invariant ∙ any_next (is_named a.s.now (octets_from a.s.now a.a a.n)) a.s.now c.loop-i.i a.end name c.loop-i-test.true c.head_at-name.ensures
+    ∙ ap (λ (b : Bool). b || rest) (sym c.is_named.ensures ∙ c.if-is_named.true))
+
+pub returns : goal.returns
+returns c =
+    let a = c.args in
+    sym (c.loop-i.invariant ∙ any_done (is_named a.s.now (octets_from a.s.now a.a a.n)) a.s.now c.loop-i.i a.end c.loop-i-test.false)

@@ -1,24 +1,10 @@
-use mathlib.Core.Path.{refl, sym, ◌∙◌}
-use Prim.Native.Nat.{◌-◌}
-use Rattle.numbers.proofs.Laws.Exponent.{ones_more, ones_less, ones_done}
+-- `numbers::exponent::all_ones` meets its contract. Assumes nothing.
+use Rattle.std.proofs.Common.{eqb, ◌-◌, ◌∙◌, rules, tests}
+use Rattle.octets.specs.Octets.{octets_from}
+use Rattle.numbers.proofs.Laws.Exponent.{ones_all}
 use Rattle.numbers.proofs.exponent.all_ones.Goals as goal
-
-pub loop-i-init : goal.loop-i-init
-loop-i-init c = refl
-
-pub returns-then-octet : goal.returns-then-octet
-returns-then-octet c =
-    let a = c.args in
-    sym (c.loop-i.invariant ∙ ones_less a.s.now c.loop-i.i a.end c.octet.result c.loop-i-test.true
-    c.octet.ensures c.if-octet.true)
-
-pub loop-i-preserved : goal.loop-i-preserved
-loop-i-preserved c =
-    let a = c.args in
-    c.loop-i.invariant ∙ ones_more a.s.now c.loop-i.i a.end c.octet.result c.loop-i-test.true
-    c.octet.ensures c.if-octet.false
 
 pub returns : goal.returns
 returns c =
     let a = c.args in
-    sym (c.loop-i.invariant ∙ ones_done a.s.now c.loop-i.i a.end c.loop-i-test.false)
+    rw c.minus.ensures at (c.all.ensures (λ b. eqb b 255) (λ b answer h g. search (rules, tests))) ∙ ones_all (octets_from a.s.now a.at (a.end - a.at))

@@ -1,5 +1,4 @@
 use mathlib.Core.Path.{refl, sym, ◌∙◌}
-use Prim.Native.Nat.{◌-◌}
 use Rattle.numbers.proofs.Laws.Leading.{lead_done, lead_step, lead_stop}
 use Rattle.numbers.proofs.leading.lead.Goals as goal
 

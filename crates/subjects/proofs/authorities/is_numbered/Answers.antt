@@ -1,9 +1,12 @@
 -- `subjects::authorities::is_numbered` meets its contract. Assumes nothing.
+use Rattle.std.proofs.Common.{◌+◌, ◌-◌, length, arith}
+use Rattle.octets.proofs.Laws.Stretches.{stretch_far}
 use Rattle.subjects.proofs.Laws.Authorities.{numbered_read}
 use Rattle.subjects.proofs.authorities.is_numbered.Goals as goal
 
 pub returns : goal.returns
 returns c =
     let a = c.args in
-    numbered_read a.s.now a.body a.n a.words.now c.equals.result c.is_number_from_one.result c.equals.ensures
-    c.is_number_from_one.ensures
+    let behind = stretch_far a.s.now (a.body + length a.words.now) (a.n - length a.words.now) (omega arith) in
+    let number = rw (c.saturating_add.ensures, c.minus.ensures, behind) at c.is_number_from_one.ensures in
+    numbered_read a.s.now a.body a.n a.words.now c.equals-begins.result c.is_number_from_one.result c.equals-begins.ensures number

@@ -1,24 +1,15 @@
-use mathlib.Core.Path.{refl, sym, ◌∙◌}
-use Prim.Native.Nat.{◌-◌}
-use Rattle.usages.proofs.Laws.Usage.{bits_done, bits_here, bits_later}
+-- `usages::usage::any_later` meets its contract. Assumes nothing.
+use Rattle.std.proofs.Common.{[], ◌∷◌, not, eqb, ◌+◌, ◌-◌, ◌≡◌, ◌∙◌, arith, rules, tests}
+use Rattle.octets.specs.Octets.{octets_from}
+use Rattle.octets.proofs.Laws.Stretches.{stretch_far}
+use Rattle.usages.specs.Usage.{any_below, bit_at}
+use Rattle.usages.proofs.Laws.Usage.{octet_bits, set_any}
 use Rattle.usages.proofs.usage.any_later.Goals as goal
-
-pub loop-k-init : goal.loop-k-init
-loop-k-init c = refl
-
-pub returns-then-any_bit : goal.returns-then-any_bit
-returns-then-any_bit c =
-    let a = c.args in
-    sym (c.loop-k.invariant ∙ bits_here a.s.now a.body a.n c.loop-k.k c.octet_past.result c.any_bit.result
-    c.loop-k-test.true c.octet_past.ensures c.any_bit.ensures c.if-any_bit.true)
-
-pub loop-k-preserved : goal.loop-k-preserved
-loop-k-preserved c =
-    let a = c.args in
-    c.loop-k.invariant ∙ bits_later a.s.now a.body a.n c.loop-k.k c.octet_past.result c.any_bit.result
-    c.loop-k-test.true c.octet_past.ensures c.any_bit.ensures c.if-any_bit.false
 
 pub returns : goal.returns
 returns c =
     let a = c.args in
-    sym (c.loop-k.invariant ∙ bits_done a.s.now a.body a.n c.loop-k.k c.loop-k-test.false)
+    let some = c.any.ensures (λ b. any_below (bit_at (b ∷ [])) 8)
+    (λ b answer h g. let e : answer ≡ not (eqb b 0) = search (rules, tests) in e ∙ octet_bits b h) in
+    rw (c.saturating_add.ensures, c.minus.ensures, stretch_far a.s.now (a.body + 2) (a.n - 2) (omega arith)) at some
+    ∙ set_any (octets_from a.s.now (a.body + 2) (a.n - 2))

@@ -1,0 +1,9 @@
+-- `octets::same_ignoring_case` meets its contract. Assumes nothing.
+use Rattle.std.proofs.Common.{eqb, ◌∙◌, rules, tests}
+use Rattle.octets.specs.Same.{lower_case}
+use Rattle.octets.proofs.Laws.Same.{beside_same}
+use Rattle.octets.proofs.comparing.same_ignoring_case.Goals as goal
+
+pub returns : goal.returns
+returns c = let a = c.args in
+    c.all_beside.ensures (λ x y. eqb (lower_case x) (lower_case y)) (λ x y answer h k g. search (rules, tests)) ∙ beside_same lower_case a.s.now a.t.now a.a a.b a.n
