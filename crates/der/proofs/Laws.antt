@@ -10,4 +10,5 @@ pub mod Any
 pub mod Walks
 pub mod Walking
 pub mod Searching
+pub mod Chains
 pub mod Places

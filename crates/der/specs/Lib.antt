@@ -6,6 +6,7 @@ pub mod Integers
 pub mod Oids
 pub mod Order
 pub mod Members
+pub mod Children
 pub mod Comparing
 pub mod Arcs
 pub mod Elements

@@ -3,6 +3,7 @@
 #![tactic(auto)]
 
 mod arcs;
+mod children;
 mod comparing;
 mod contents;
 mod header;
@@ -11,6 +12,7 @@ mod order;
 mod walk;
 
 pub use arcs::arc_below;
+pub use children::{Children, children_of, members_in};
 pub use comparing::{contents_are, first_is, octets_are, same_contents, same_element};
 pub use contents::{element_ok, holds_elements, is_constructed, primitive_ok};
 pub use header::{Head, head_any, head_at};

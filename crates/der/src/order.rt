@@ -4,7 +4,9 @@ ghost use Rattle.octets.specs.Octets.{octets_from};
 ghost use Rattle.der.specs.Header.{children_of};
 ghost use Rattle.der.specs.Order.{octets_le, ascending as ascending_of, octets_of};
 
-use crate::header::head_at;
+use crate::children::children_of;
+use crate::header::Head;
+use crate::members::missing;
 
 // Whether the n octets from a on come, as in a dictionary, no later than the m octets from b on.
 pub fn octets_le(s: &[u8], a: usize, n: usize, b: usize, m: usize) -> bool
@@ -38,21 +40,31 @@ pub fn may_follow(s: &[u8], set: bool, from: usize, at: usize, end: usize) -> bo
     true
 }
 
+// Whether the element a comes no later than b.
+fn element_le(s: &[u8], a: Head, b: Head) -> bool
+    ensures { result ≡ octets_le (octets_of s.now a) (octets_of s.now b) }
+{
+    octets_le(
+        s,
+        a.at,
+        octets::minus(a.end, a.at),
+        b.at,
+        octets::minus(b.end, b.at),
+    )
+}
+
 // Whether the elements from `at` to `end` ascend. (The walk judges a SET that bears its own tag; this is for one
 // under another tag.)
+#[tactic(auto, unfolding(crate::specs::Order::ascend_from))]
 pub fn ascending(s: &[u8], at: usize, end: usize) -> bool
     ensures { result ≡ ascending_of (map (octets_of s.now) (children_of s.now at end)) }
 {
-    let mut i = at;
-    let mut from = at;
-    while i < end {
-        let member = head_at(s, i, end);
-        let next = member.end;
-        if !may_follow(s, true, from, i, next) {
+    let mut before = missing(at);
+    for member in children_of(s, at, end) {
+        if !element_le(s, before, member) {
             return false;
         }
-        from = i;
-        i = next;
+        before = member;
     }
     true
 }

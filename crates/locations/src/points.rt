@@ -15,16 +15,7 @@ fn is_restriction(h: Head) -> bool
 pub fn restricted(s: &[u8], point: Head) -> bool
     ensures { result ≡ is_restricted s.now point }
 {
-    let end = point.end;
-    let mut i = point.body;
-    while i < end {
-        let member = der::head_at(s, i, end);
-        if is_restriction(member) {
-            return true;
-        }
-        i = member.end;
-    }
-    false
+    der::members_in(s, point).any(is_restriction)
 }
 
 // The full name of a point, whose members are names, or an element that is not sound and holds nothing: rule 418 looks

@@ -1,6 +1,7 @@
 -- The elements of a part: `children_of` opens at its front, whatever its fuel.
 --     children_done      none left
 --     children_next      the first, and those after it
+--     children_front     the same, where the first is h
 -- Assumes nothing.
 use mathlib.Core.Path.{◌≡◌, refl, sym, ap, ◌∙◌}
 use mathlib.Core.List.{List, [], ◌∷◌}
@@ -50,3 +51,7 @@ children_next s at end h =
     ∙ (by_next s (end - (at + 1)) at end h
     ∙ ap (λ (l : List Head). head_of s at end ∷ l) (children_fuel s (end - (at + 1)) (end - (head_of s at end).end) (head_of s at end).end end
     (omega arith) (omega arith)))
+
+-- where the first is h
+pub children_front : (s : List ℕ) (at end : ℕ) (h : Head) → at < end → h ≡ head_of s at end → children_of s at end ≡ h ∷ children_of s h.end end
+children_front s at end h l e = children_next s at end l ∙ ap (λ (g : Head). g ∷ children_of s g.end end) (sym e)

@@ -1,0 +1,7 @@
+use mathlib.Core.Path.{refl}
+use Rattle.der.specs.Children.{children_left}
+use Rattle.der.proofs.children.children_of.Goals as goal
+
+pub returns : goal.returns
+unfolding children_left
+returns c = refl
