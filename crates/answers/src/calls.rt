@@ -11,10 +11,8 @@ use std::io::Print;
 pub fn fill(room: &mut [u8])
     ensures { room.new ≡ fresh_room (length room.old) }
 {
-    let mut i = 0;
-    while i < room.len() {
-        room[i] = (i % 251) as u8;
-        i += 1;
+    for (i, b) in room.iter_mut().enumerate() {
+        *b = (i % 251) as u8;
     }
 }
 

@@ -3,7 +3,7 @@ use lint::Refusal;
 use reader::{Loss, Record};
 use refusals::Values;
 use std::io::Print;
-use texts::{field, word};
+use texts::Text;
 use writer::NotWritten;
 
 // So many octets hold every line.
@@ -15,53 +15,53 @@ pub fn put_out(output: &impl Print, octets: &[u8]) {
     let _ = output.write_all(octets);
 }
 
-// Puts an answer's values behind the first n octets of a line, as far as the line goes, and answers how many there are
-// then. The text says what is counted.
-fn put_values(line: &mut [u8], n: usize, text: &[u8], v: Values) -> usize {
+// Puts an answer's values behind a line's text. `counted` says what is counted.
+fn put_values(line: &mut Text, counted: &[u8], v: Values) {
     if v.number == 0 {
-        return field(line, n, text, v.count);
+        return line.field(counted, v.count);
     }
-    let a = field(line, n, b"refused ", v.number);
-    let b = field(line, a, b" side ", v.side);
-    field(line, b, b" at ", v.place)
+    line.field(b"refused ", v.number);
+    line.field(b" side ", v.side);
+    line.field(b" at ", v.place);
 }
 
-// Ends a line after its first n octets and writes it.
-fn end(output: &impl Print, line: &mut [u8], n: usize) {
-    let m = word(line, n, b"\n");
-    if m <= line.len() {
-        put_out(output, &line[..m]);
-    }
+// Ends a line and writes it.
+fn end(output: &impl Print, mut line: Text) {
+    line.word(b"\n");
+    put_out(output, line.octets());
 }
 
 // Writes a line of a text and a number.
 pub fn say(output: &impl Print, text: &[u8], number: usize) {
-    let mut line = [0u8; LINE];
-    let a = field(&mut line, 0, text, number);
-    end(output, &mut line, a);
+    let mut space = [0u8; LINE];
+    let mut line = Text::new(&mut space);
+    line.field(text, number);
+    end(output, line);
 }
 
 pub fn say_answer(output: &impl Print, answer: Result<usize, Refusal>) {
-    let mut line = [0u8; LINE];
-    let a = put_values(&mut line, 0, b"findings ", lint::answer_values(answer));
-    end(output, &mut line, a);
+    let mut space = [0u8; LINE];
+    let mut line = Text::new(&mut space);
+    put_values(&mut line, b"findings ", lint::answer_values(answer));
+    end(output, line);
 }
 
 pub fn say_written(output: &impl Print, answer: Result<usize, NotWritten>) {
-    let mut line = [0u8; LINE];
-    let a = put_values(&mut line, 0, b"blocks ", writer::placing_values(answer));
-    end(output, &mut line, a);
+    let mut space = [0u8; LINE];
+    let mut line = Text::new(&mut space);
+    put_values(&mut line, b"blocks ", writer::placing_values(answer));
+    end(output, line);
 }
 
 pub fn say_record(output: &impl Print, record: Record) {
-    let mut line = [0u8; LINE];
-    let a = field(&mut line, 0, b"record ", record.number);
-    let b = field(&mut line, a, b" profile ", octets::wide(record.profile));
-    let c = field(&mut line, b, b" length ", record.length);
-    let d = word(&mut line, c, b" ");
-    let answer = record.answer;
-    let e = put_values(&mut line, d, b"findings ", lint::answer_values(answer));
-    end(output, &mut line, e);
+    let mut space = [0u8; LINE];
+    let mut line = Text::new(&mut space);
+    line.field(b"record ", record.number);
+    line.field(b" profile ", usize::from(record.profile));
+    line.field(b" length ", record.length);
+    line.word(b" ");
+    put_values(&mut line, b"findings ", lint::answer_values(record.answer));
+    end(output, line);
 }
 
 pub fn say_lost(output: &impl Print, position: usize, loss: Loss) {
@@ -73,16 +73,18 @@ pub fn say_lost(output: &impl Print, position: usize, loss: Loss) {
 }
 
 fn say_loss(output: &impl Print, position: usize, loss: &[u8]) {
-    let mut line = [0u8; LINE];
-    let a = field(&mut line, 0, b"lost ", position);
-    let b = word(&mut line, a, loss);
-    end(output, &mut line, b);
+    let mut space = [0u8; LINE];
+    let mut line = Text::new(&mut space);
+    line.field(b"lost ", position);
+    line.word(loss);
+    end(output, line);
 }
 
 pub fn say_counts(output: &impl Print, records: usize, blocks: usize, lost: usize) {
-    let mut line = [0u8; LINE];
-    let a = field(&mut line, 0, b"records ", records);
-    let b = field(&mut line, a, b" blocks ", blocks);
-    let c = field(&mut line, b, b" lost ", lost);
-    end(output, &mut line, c);
+    let mut space = [0u8; LINE];
+    let mut line = Text::new(&mut space);
+    line.field(b"records ", records);
+    line.field(b" blocks ", blocks);
+    line.field(b" lost ", lost);
+    end(output, line);
 }

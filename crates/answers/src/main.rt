@@ -71,7 +71,7 @@ fn answer_frame(output: &impl Print, kind: u8, frame: &[u8], room: &mut [u8]) {
         12 => calls::answer_call(output, frame, room),
         13 => calls::answer_writing(output, frame, room),
         15 => answer_value(output, frame, 11),
-        _ => answer_value(output, frame, octets::wide(kind)),
+        _ => answer_value(output, frame, usize::from(kind)),
     }
 }
 

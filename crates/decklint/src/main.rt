@@ -37,14 +37,13 @@ fn list_deck(output: &impl Print, errors: &impl Print, deck: &[u8], out: &mut [u
     let mut progress = listing::start();
     loop {
         let filling = listing::fill_listing(out, deck, progress);
-        let end = filling.end;
-        if !write(output, errors, &out[..end]) {
+        if !write(output, errors, &out[..filling.end]) {
             return;
         }
-        if filling.done {
+        let Some(next) = filling.next else {
             return;
-        }
-        progress = filling.next;
+        };
+        progress = next;
     }
 }
 

@@ -3,6 +3,5 @@ pub mod Findings
 pub mod Lines
 pub mod Listing
 pub mod Whole
-pub mod Advancing
 pub mod Filling
 pub mod Printing

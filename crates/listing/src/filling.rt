@@ -1,17 +1,18 @@
 // The whole listing, a bufferful at a time. A program that lists a deck reads it, fills a buffer, writes what was put, and
 // goes on until all is put: what it prints is settled here.
-ghost use Rattle.std.specs.Prelude.{◌≡◌, ◌+◌, ◌≤◌, leb, length};
+ghost use Rattle.std.specs.Prelude.{◌≡◌, ◌+◌, ◌≤◌, length};
 ghost use Rattle.octets.specs.Numbers.{largest};
 ghost use Rattle.reader.specs.Runs.{blocks};
 ghost use Rattle.reader.specs.Stepping.{item_blocks};
-ghost use Rattle.texts.specs.Putting.{Spelled};
+ghost use Rattle.texts.specs.Putting.{Grown};
 ghost use Rattle.listing.specs.Lines.{total_line, too_long_line};
-ghost use Rattle.listing.specs.Filling.{nothing_listed, one_more, advanced, item_space, if_space, all_of, portion_of};
+ghost use Rattle.listing.specs.Filling.{nothing_listed, advanced, counts_in, item_space, if_space, all_of, portion_of};
 ghost use Rattle.listing.specs.Filling.{items_from, deck_portion, Filled};
 
 use crate::lines::{item_lines, too_long, total_line};
 use reader::{Counts, Item};
 use report::WIDTH;
+use texts::Text;
 
 // "It lends the linter 65,536 octets of room and takes as much of deck" (document 01, "The deck").
 const MOST: usize = 65536;
@@ -40,8 +41,7 @@ pub struct Progress {
 #[derive(Clone, Copy)]
 pub struct Filling {
     pub end: usize,
-    pub next: Progress,
-    pub done: bool,
+    pub next: Option<Progress>,
 }
 
 pub fn start() -> Progress
@@ -61,19 +61,6 @@ fn linter_room() -> [u8; MOST]
     [0; MOST]
 }
 
-// Whether any item fits behind the first n octets of a buffer.
-fn has_space(n: usize, size: usize) -> bool
-    ensures { result ≡ leb (n + item_space) size }
-{
-    octets::within(n, ITEM, size)
-}
-
-fn one_more(n: usize) -> usize
-    ensures { result ≡ one_more n }
-{
-    if n < usize::MAX { n + 1 } else { n }
-}
-
 // Behind an item.
 fn advance(p: Progress, item: Item) -> Progress
     requires { p.position + item_blocks item ≤ largest }
@@ -82,29 +69,29 @@ fn advance(p: Progress, item: Item) -> Progress
     let position = p.position + reader::item_blocks(item);
     match item {
         Item::Record(_) => Progress {
-            position: position,
-            records: one_more(p.records),
-            lost: p.lost,
+            position,
+            records: p.records.saturating_add(1),
+            ..p
         },
         Item::Lost(_) => Progress {
-            position: position,
-            records: p.records,
-            lost: one_more(p.lost),
+            position,
+            lost: p.lost.saturating_add(1),
+            ..p
         },
         Item::End => p,
     }
 }
 
-// The last line behind the first n octets, which is no longer than an item's lines.
-fn last_line(out: &mut [u8], n: usize, records: usize, lost: usize, total: usize) -> usize
-    ensures spelled { Spelled (total_line (record { records = records; lost = lost }) total) n out.old result out.new }
-    ensures total_len_bound { length (total_line (record { records = records; lost = lost }) total) ≤ item_space }
+// The last line, which is no longer than an item's lines.
+fn last_line(text: &mut Text, p: Progress, total: usize)
+    ensures spelled { Grown (total_line (counts_in p) total) text.old text.new }
+    ensures total_len_bound { length (total_line (counts_in p) total) ≤ item_space }
 {
     let counts = Counts {
-        records: records,
-        lost: lost,
+        records: p.records,
+        lost: p.lost,
     };
-    total_line(out, n, counts, total)
+    total_line(text, counts, total);
 }
 
 // Lists a deck that is not too long. The reader's step lends the linter the room.
@@ -113,45 +100,41 @@ fn fill_items(out: &mut [u8], deck: &[u8], from: Progress, room: &mut [u8]) -> F
     ensures { Filled (portion_of (length out.old) (length (blocks deck.now)) 0 from
         (items_from deck.now from.position)) out.old result out.new }
 {
+    let mut text = Text::new(out);
     let mut p = from;
-    let mut n: usize = 0;
-    while has_space(n, out.len()) {
-        let position = p.position;
-        let item = reader::step(deck, position, room);
+    while text.has_space(ITEM) {
+        let item = reader::step(deck, p.position, room);
         if reader::item_blocks(item) == 0 {
-            let end = last_line(out, n, p.records, p.lost, reader::block_count(deck));
+            last_line(&mut text, p, reader::block_count(deck));
             return Filling {
-                end: end,
-                next: p,
-                done: true,
+                end: text.octets().len(),
+                next: None,
             };
         }
-        n = item_lines(out, n, position, item, room);
+        item_lines(&mut text, p.position, item, room);
         p = advance(p, item);
     }
     Filling {
-        end: n,
-        next: p,
-        done: false,
+        end: text.octets().len(),
+        next: Some(p),
     }
 }
 
 // The only line of a deck that is too long.
 fn fill_too_long(out: &mut [u8], p: Progress) -> Filling
-    ensures { Filled (if_space (length out.old) 0 p (all_of p too_long_line)) out.old result out.new }
+    ensures { Filled (if_space (length out.old) 0 p (all_of too_long_line)) out.old result out.new }
 {
-    if has_space(0, out.len()) {
-        let end = too_long(out, 0);
+    let mut text = Text::new(out);
+    if !text.has_space(ITEM) {
         return Filling {
-            end: end,
-            next: p,
-            done: true,
+            end: 0,
+            next: Some(p),
         };
     }
+    too_long(&mut text);
     Filling {
-        end: 0,
-        next: p,
-        done: false,
+        end: text.octets().len(),
+        next: None,
     }
 }
 

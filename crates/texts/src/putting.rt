@@ -1,29 +1,68 @@
-// Words, and numbers in decimal, octet by octet.
-ghost use Rattle.std.specs.Prelude.{◌≡◌, [], ◌∷◌, ◌++◌, ◌<◌, length, drop};
+// A text that grows in a lent buffer: words, and numbers in decimal.
+ghost use Rattle.std.specs.Prelude.{◌≡◌, [], ◌∷◌, ◌++◌, ◌+◌, ◌<◌, leb, length, take, drop};
 ghost use Rattle.texts.specs.Texts.{decimal as Decimal};
-ghost use Rattle.texts.specs.Putting.{Spelled};
+ghost use Rattle.texts.specs.Putting.{Grown};
 
-// One octet.
-fn put(out: &mut [u8], n: usize, b: u8) -> usize
-    ensures { Spelled (b ∷ []) n out.old result out.new }
-{
-    if n < out.len() {
-        out[n] = b;
-        return n + 1;
-    }
-    n
+// The octets that are put so far, at the front of the buffer. Those that the buffer has no space for are not put.
+#[derive(Drop)]
+pub struct Text<'a> {
+    space: &'a mut [u8],
+    len: usize,
 }
 
-pub fn word(out: &mut [u8], n: usize, text: &[u8]) -> usize
-    ensures { Spelled text.now n out.old result out.new }
-{
-    let mut m = n;
-    let mut i: usize = 0;
-    while i < text.len() {
-        m = put(out, m, text[i]);
-        i += 1;
+impl<'a> Text<'a> {
+    pub fn new(space: &'a mut [u8]) -> Text<'a>
+        ensures { result ≡ record { space = space.entry; len = 0 } }
+    {
+        Text { space, len: 0 }
     }
-    m
+
+    // Whether the buffer has space for so many octets more.
+    pub fn has_space(&self, more: usize) -> bool
+        ensures { result ≡ leb (self.now.len + more) (length self.now.space.now) }
+    {
+        octets::within(self.len, more, self.space.len())
+    }
+
+    pub fn octets(&self) -> &[u8]
+        ensures { result.now ≡ take self.now.len self.now.space.now }
+    {
+        &self.space[..self.len.min(self.space.len())]
+    }
+
+    // One octet.
+    fn put(&mut self, b: u8)
+        ensures { Grown (b ∷ []) self.old self.new }
+    {
+        if self.len < self.space.len() {
+            self.space[self.len] = b;
+            self.len += 1;
+        }
+    }
+
+    pub fn word(&mut self, text: &[u8])
+        ensures { Grown text.now self.old self.new }
+    {
+        for b in text {
+            self.put(*b);
+        }
+    }
+
+    pub fn decimal(&mut self, x: usize)
+        ensures { Grown (Decimal x) self.old self.new }
+    {
+        let mut space = [0u8; 20];
+        let at = digits(x, &mut space);
+        self.word(&space[at..]);
+    }
+
+    // A word, and a number behind it.
+    pub fn field(&mut self, text: &[u8], x: usize)
+        ensures { Grown (text.now ++ Decimal x) self.old self.new }
+    {
+        self.word(text);
+        self.decimal(x);
+    }
 }
 
 // The digits of a number, written from the last one on to the end of `space`; the answer is where they start.
@@ -41,20 +80,4 @@ fn digits(x: usize, space: &mut [u8]) -> usize
     i -= 1;
     space[i] = (48 + rest) as u8;
     i
-}
-
-pub fn decimal(out: &mut [u8], n: usize, x: usize) -> usize
-    ensures { Spelled (Decimal x) n out.old result out.new }
-{
-    let mut space = [0u8; 20];
-    let at = digits(x, &mut space);
-    word(out, n, &space[at..])
-}
-
-// A word, and a number behind it.
-pub fn field(out: &mut [u8], n: usize, text: &[u8], x: usize) -> usize
-    ensures { Spelled (text.now ++ Decimal x) n out.old result out.new }
-{
-    let m = word(out, n, text);
-    decimal(out, m, x)
 }

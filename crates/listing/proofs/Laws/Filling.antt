@@ -2,7 +2,9 @@
 --     items_next, items_end      what is handed over from a position on, by a step there
 --     portion_next, portion_last, portion_short     the portion where an item is listed, where none is left, and where there is no space
 --     Left                       n octets are put, and the rest of the portion is still to be put
---     left_start, left_lines, left_last, left_stop     at the start of a fill, past an item, and at its end
+--     left_start, left_begun, left_lines, left_last, left_stop     at the start of a fill, past an item, and at its end
+--     filled_back                what the text has was put, and the buffer is as it leaves it
+--     step_within, step_smaller  an item that is listed is within the deck, and less of that is left behind it
 --     step_lists, step_ends, fill_stops      a step of a fill that lists an item, one at the end of the deck, and where no other is sure to fit
 --     text_put, text_waits       a fill of one text
 --     deck_long, deck_short      the fill of a deck that is too long, and of one that is not
@@ -10,12 +12,14 @@
 use mathlib.Core.Path.{◌≡◌, refl, sym, ap, ap₂, subst, ◌∙◌}
 use mathlib.Core.Bool.{true, false}
 use mathlib.Core.List.{List, [], ◌∷◌, ◌++◌, append-nil}
-use Prim.Native.Nat.{ℕ, ◌+◌, ◌*◌, ◌≤◌, ◌<◌}
+use Prim.Native.Nat.{ℕ, ◌+◌, ◌-◌, ◌*◌, ◌≤◌, ◌<◌}
+use Rattle.std.proofs.Common.{MutBor}
 use native.Mathlib.Omega.{arith}
-use lib.ListN.{length, drop, length-append}
-use lib.Seq.{sets, sets-eq, length-sets}
+use lib.ListN.{length, take, drop, length-append}
+use lib.Seq.{sets, sets-eq, length-sets, take_at}
 use lib.Dec.{leb}
 use borrow.Author.Tests.{leb-true, le-leb, lt-leb}
+use Rattle.std.specs.Prelude.{Option, Some, None}
 use Rattle.listing.specs.Lines.{total_line, too_long_line}
 use Rattle.listing.specs.Listing.{program_room, handed_lines, item_lines}
 use Rattle.listing.specs.Filling.{advanced, counts_in, item_space, Portion, if_space, all_of, lines_then, portion_of, items_from, deck_portion, Filled}
@@ -23,7 +27,8 @@ use Rattle.listing.specs.declared.filling.Progress.{Progress}
 use Rattle.listing.specs.declared.filling.Filling.{Filling}
 use Rattle.octets.specs.Octets.{Octets}
 use Rattle.octets.proofs.Laws.Writing.{sets_append}
-use Rattle.texts.specs.Putting.{buffer_after, Spelled}
+use Rattle.texts.specs.Putting.{buffer_after, Spelled, Grown}
+use Rattle.texts.specs.declared.putting.Text.{Text}
 use Rattle.texts.proofs.Laws.Putting.{put_whole}
 use Rattle.reader.specs.Runs.{blocks}
 use Rattle.reader.specs.Stepping.{Stepped, item_blocks, item_at, room_at}
@@ -31,7 +36,7 @@ use Rattle.reader.specs.Walking.{Handed, handed_at}
 use Rattle.reader.specs.declared.stepping.Item.{Item}
 use Rattle.reader.proofs.Laws.Places.{from_nil}
 use Rattle.reader.proofs.Laws.Walking.{handed_next}
-use Rattle.reader.proofs.Laws.Passing.{item_inside, item_past}
+use Rattle.reader.proofs.Laws.Passing.{item_within, item_inside, item_past}
 use Rattle.listing.proofs.Laws.Listing.{room_program, room_lines}
 use Rattle.listing.proofs.Laws.Whole.{item_whole}
 use Rattle.reader.specs.declared.stepping.Item.TheVariants as Items
@@ -57,12 +62,12 @@ module _ (deck : List ℕ) (i : ℕ) where
 
 module _ (size total n : ℕ) (p : Progress) where
   pub portion_short : (hs : List Handed) → leb (n + item_space) size ≡ false
-      → portion_of size total n p hs ≡ record { text = []; next = p; done = false }
+      → portion_of size total n p hs ≡ record { text = []; next = Some p }
   portion_short [] f = rw f
   portion_short (h ∷ hs) f = rw f
 
   module _ (t : leb (n + item_space) size ≡ true) where
-    pub portion_last : (hs : List Handed) → hs ≡ [] → portion_of size total n p hs ≡ all_of p (total_line (counts_in p) total)
+    pub portion_last : (hs : List Handed) → hs ≡ [] → portion_of size total n p hs ≡ all_of (total_line (counts_in p) total)
     portion_last hs e = rw (e, t)
 
     pub portion_next : (h : Handed) (hs all : List Handed) → all ≡ h ∷ hs
@@ -79,10 +84,14 @@ pub record Left (all : Portion) (first : List ℕ) (rest : Portion) (n : ℕ) (o
   pub long : n + length rest.text ≡ length all.text
   pub octets : buffer_after rest.text n out ≡ buffer_after all.text 0 first
   pub next : rest.next ≡ all.next
-  pub done : rest.done ≡ all.done
 
 pub left_start : (all : Portion) (out : List ℕ) → Left all out all 0 out
-left_start all out = record { inside = omega arith; same_long = refl; long = omega arith; octets = refl; next = refl; done = refl }
+left_start all out = record { inside = omega arith; same_long = refl; long = omega arith; octets = refl; next = refl }
+
+-- at the start of a fill, in a buffer that is lent to a text
+pub left_begun : (all : ℕ → Portion) (out : MutBor (List ℕ)) {text : Text} → text ≡ record { space = out; len = 0 }
+    → Left (all 0) out.now (all text.len) text.len text.space.now
+left_begun all out e = rw e (left_start (all 0) out.now)
 
 module _ {all : Portion} {first : List ℕ} where
   -- as the rest is said another way
@@ -106,20 +115,19 @@ module _ {all : Portion} {first : List ℕ} where
               ∙ sym (sets_append lines rest.text out n)
               ∙ l.octets;
           next = l.next;
-          done = l.done;
         },
       )
 
   -- where nothing is left
   pub left_stop : {rest : Portion} {n : ℕ} {out : List ℕ} → Left all first rest n out → rest.text ≡ []
-      → Filled all first (record { end = n; next = rest.next; done = rest.done }) out
+      → Filled all first (record { end = n; next = rest.next }) out
   unfolding buffer_after
   left_stop {rest} {n} {out} l e =
       let none : length rest.text ≡ 0 = ap length e in
       let long : n ≡ length all.text = omega (arith, l.long) in
       let whole : 0 + length all.text ≡ length all.text = omega arith in
       record {
-        told = rw (long, l.next, l.done);
+        told = rw (long, l.next);
         octets =
             sym (ap (λ (t : List ℕ). sets out n t) e)
             ∙ l.octets
@@ -128,15 +136,45 @@ module _ {all : Portion} {first : List ℕ} where
       }
 
   -- where a text that fits is all that is left
-  pub left_last : {text : List ℕ} {p : Progress} {n m : ℕ} {out last : List ℕ} → Left all first (all_of p text) n out
-      → Spelled text n out m last → n + length text ≤ length out → Filled all first (record { end = m; next = p; done = true }) last
-  left_last {text} {p} {n} {m} {out} {last} l s h =
+  pub left_last : {text : List ℕ} {n m : ℕ} {out last : List ℕ} → Left all first (all_of text) n out
+      → Spelled text n out m last → n + length text ≤ length out → Filled all first (record { end = m; next = None }) last
+  left_last {text} {n} {m} {out} {last} l s h =
       left_stop
-      (left_lines {lines = text} {rest = all_of p []}
-      (left_as (ap (λ (t : List ℕ). all_of p t) (sym (append-nil text))) l) s h).1
+      (left_lines {lines = text} {rest = all_of []}
+      (left_as (ap (λ (t : List ℕ). all_of t) (sym (append-nil text))) l) s h).1
       refl
 
+  -- what was put is what the text has, and the buffer is as the text leaves it
+  pub filled_back : (text : Text) {next : Option Progress} {octets last : List ℕ} → Filled all first (record { end = text.len; next = next }) text.space.now
+      → octets ≡ take text.len text.space.now → last ≡ text.space.now → Filled all first (record { end = length octets; next = next }) last
+  filled_back text {next} {octets} f e back =
+      let long : text.len ≡ length all.text = ap (λ (r : Filling). r.end) f.told in
+      let whole : octets ≡ all.text =
+      e ∙ ap₂ (λ (k : ℕ) (l : List ℕ). take k l) long f.octets ∙ take_at all.text (drop (length all.text) first) (length all.text) refl in
+      let onward : next ≡ all.next = ap (λ (r : Filling). r.next) f.told in
+      record { told = rw (whole, onward); octets = back ∙ f.octets }
+
 -- ---- a step of a fill
+
+-- where the reader steps at the next block, and the item that it hands over passes some
+module _ (deck : List ℕ) (p : Progress) (room : List ℕ) {next : Item} {left : List ℕ} {passed : ℕ} (s : Stepped deck p.position room next left)
+    (e : passed ≡ item_blocks next) (some : passed ≡ 0 → ⊥) where
+  told : item_blocks next ≡ item_blocks (item_at deck p.position room)
+  told = ap item_blocks s.told
+
+  step_some : item_blocks (item_at deck p.position room) ≡ 0 → ⊥
+  step_some none = some (e ∙ told ∙ none)
+
+  step_inside : 512 * p.position < length deck
+  step_inside = item_inside deck p.position room step_some
+
+  pub step_within : 512 * (p.position + item_blocks next) ≤ length deck + 511
+  step_within = omega (arith, told, item_within deck p.position room (omega (arith, step_inside)))
+
+  pub step_smaller : {q : Progress} → q ≡ advanced p next → length deck - 512 * q.position < length deck - 512 * p.position
+  step_smaller {q} on =
+      let at : q.position ≡ p.position + item_blocks next = ap (λ (x : Progress). x.position) on ∙ advanced_position p next in
+      omega (arith, at, step_inside, some, e)
 
 -- where any item fits behind the first n octets of a buffer, and the reader steps at the next block in the linter's room
 module _ {all : Portion} {first out : List ℕ} {n : ℕ} (total : ℕ) (deck : List ℕ) (p : Progress) (room : List ℕ) (l : length room ≡ 65536)
@@ -166,12 +204,12 @@ module _ {all : Portion} {first out : List ℕ} {n : ℕ} (total : ℕ) (deck : 
       (sym (room_lines i item (room_at deck i room))) (sym (advanced_position p item))
 
   -- an item is listed
-  pub step_lists : Octets deck → length deck ≤ 65536 → {m : ℕ} {next : Item} {left last : List ℕ} {q : Progress}
-      → Stepped deck p.position room next left → (item_blocks next ≡ 0 → ⊥) → Octets left → Spelled (item_lines p.position next left) n out m last
+  pub step_lists : Octets deck → length deck ≤ 65536 → {m passed : ℕ} {next : Item} {left last : List ℕ} {q : Progress}
+      → Stepped deck p.position room next left → passed ≡ item_blocks next → (passed ≡ 0 → ⊥) → Octets left → Spelled (item_lines p.position next left) n out m last
       → q ≡ advanced p next → Left all first (portion_of (length first) total m q (items_from deck q.position)) m last
-  step_lists o short {m} {next} {left} {last} s some k put e =
+  step_lists o short {m} {next = next} {left = left} {last = last} s is some k put e =
       let i : ℕ = p.position in
-      let h : 512 * i < length deck = item_inside deck i room (λ (none : item_blocks item ≡ 0). some (ap item_blocks s.told ∙ none)) in
+      let h : 512 * i < length deck = step_inside deck p room s is some in
       let text : Spelled lines n out m last =
       subst (λ (x : Item). Spelled (item_lines i x (room_at deck i room)) n out m last) s.told
       (subst (λ (r : List ℕ). Spelled (item_lines i next r) n out m last) s.bytes put) in
@@ -186,7 +224,7 @@ module _ {all : Portion} {first out : List ℕ} {n : ℕ} (total : ℕ) (deck : 
   -- the deck is at its end, and the last line is put
   pub step_ends : {m counted : ℕ} {next : Item} {left last : List ℕ} → Stepped deck p.position room next left → item_blocks next ≡ 0
       → counted ≡ total → length (total_line (counts_in p) counted) ≤ item_space → Spelled (total_line (counts_in p) counted) n out m last
-      → Filled all first (record { end = m; next = p; done = true }) last
+      → Filled all first (record { end = m; next = None }) last
   step_ends {m} {last = last} s none e long put =
       let past = item_past deck p.position room (sym (ap item_blocks s.told) ∙ none) in
       left_last
@@ -199,32 +237,35 @@ module _ {all : Portion} {first out : List ℕ} {n : ℕ} (total : ℕ) (deck : 
 module _ {all : Portion} {first out : List ℕ} {n : ℕ} (total : ℕ) (p : Progress) (hs : List Handed) where
   -- no other item is sure to fit
   pub fill_stops : leb (n + item_space) (length out) ≡ false → Left all first (portion_of (length first) total n p hs) n out
-      → Filled all first (record { end = n; next = p; done = false }) out
+      → Filled all first (record { end = n; next = Some p }) out
   fill_stops f rest =
       let short : leb (n + item_space) (length first) ≡ false = ap (λ (size : ℕ). leb (n + item_space) size) (sym rest.same_long) ∙ f in
       left_stop (left_as (portion_short (length first) total n p hs short) rest) refl
 
--- a single text, where there is space for any item and where not
-module _ (p : Progress) (text out : List ℕ) where
+-- a single text, in a buffer that is lent: where there is space for any item, and where not
+module _ (p : Progress) (line : List ℕ) (out : MutBor (List ℕ)) {text : Text} (e : text ≡ record { space = out; len = 0 }) where
   abbrev single : Portion
-  single = if_space (length out) 0 p (all_of p text)
+  single = if_space (length out.now) 0 p (all_of line)
 
-  pub text_put : leb (0 + item_space) (length out) ≡ true → length text ≤ item_space → {m : ℕ} {last : List ℕ} → Spelled text 0 out m last
-      → Filled single out (record { end = m; next = p; done = true }) last
+  pub text_put : leb (text.len + item_space) (length text.space.now) ≡ true → length line ≤ item_space → {last : Text} → Grown line text last
+      → Filled single out.now (record { end = last.len; next = None }) last.space.now
   text_put t long put =
-      let space : 0 + item_space ≤ length out = leb-true (0 + item_space) (length out) t in
-      let all : single ≡ all_of p text = rw t in
-      left_last (left_as all (left_start single out)) put (omega (arith, space, long))
+      let fits : leb (0 + item_space) (length out.now) ≡ true = rw e at t in
+      let space : 0 + item_space ≤ length out.now = leb-true (0 + item_space) (length out.now) fits in
+      let all : single ≡ all_of line = rw fits in
+      left_last (left_as all (left_start single out.now)) (rw e at put.spelled) (omega (arith, space, long))
 
-  pub text_waits : leb (0 + item_space) (length out) ≡ false → Filled single out (record { end = 0; next = p; done = false }) out
-  text_waits f =
-      let none : single ≡ record { text = []; next = p; done = false } = rw f in
-      left_stop (left_as none (left_start single out)) refl
+  pub text_waits : leb (text.len + item_space) (length text.space.now) ≡ false → {last : List ℕ} → last ≡ text.space.now
+      → Filled single out.now (record { end = 0; next = Some p }) last
+  text_waits f back =
+      let full : leb (0 + item_space) (length out.now) ≡ false = rw e at f in
+      let none : single ≡ record { text = []; next = Some p } = rw full in
+      rw (back, e) (left_stop (left_as none (left_start single out.now)) refl)
 
 -- ---- a deck that is too long, and one that is not
 
 module _ (deck : List ℕ) (p : Progress) {out : List ℕ} {r : Filling} {last : List ℕ} where
-  pub deck_long : 65536 < length deck → Filled (if_space (length out) 0 p (all_of p too_long_line)) out r last
+  pub deck_long : 65536 < length deck → Filled (if_space (length out) 0 p (all_of too_long_line)) out r last
       → Filled (deck_portion deck p (length out)) out r last
   unfolding deck_portion
   deck_long h f = rw (lt-leb (length deck) 65536 h) f

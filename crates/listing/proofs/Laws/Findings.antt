@@ -1,22 +1,22 @@
 -- The lines of findings.
 --     findings_next     those of the first k + 1 entries are those of the first k, and that of entry k
---     no_findings, one_finding, all_findings     put one behind the other
+--     no_findings, one_finding                   put one behind the other
 --     reported_lines, refused_lines              all lines of a record, by its answer
 -- Assumes nothing.
 use mathlib.Core.Path.{◌≡◌, refl, sym, ap, subst, ◌∙◌}
 use mathlib.Core.List.{List, [], ◌∷◌, ◌++◌, append_assoc, append-nil}
-use Prim.Native.Nat.{ℕ, suc, ◌+◌, ◌≤◌}
+use Prim.Native.Nat.{ℕ, suc, ◌+◌}
 use native.Mathlib.Numerals.{add-one}
-use native.Mathlib.Omega.{arith}
 use Rattle.std.specs.Prelude.{Result, Ok, Err}
 use Rattle.listing.specs.Lines.{finding_line, record_line}
 use Rattle.listing.specs.Listing.{finding_lines, reported_entries, record_lines}
-use Rattle.texts.specs.Putting.{Spelled}
+use Rattle.texts.specs.Putting.{Grown}
+use Rattle.texts.specs.declared.putting.Text.{Text}
 use Rattle.report.specs.Entries.{entry_of, decode}
 use Rattle.report.specs.declared.sink.Entry.{Entry}
 use Rattle.lint.specs.declared.reasons.Refusal.{Refusal}
 use Rattle.reader.specs.declared.stepping.Record.{Record}
-use Rattle.texts.proofs.Laws.Putting.{put_nothing, ◌⨾◌}
+use Rattle.texts.proofs.Laws.Putting.{grown_nothing, ◌then◌}
 use Rattle.report.proofs.Laws.Reading.{decode_none, decode_next}
 
 lines_join : (es fs : List Entry) → finding_lines (es ++ fs) ≡ finding_lines es ++ finding_lines fs
@@ -30,27 +30,20 @@ findings_next s k = rw (decode_next s k, lines_join (decode k s) (entry_of s k �
 
 -- ---- put one behind the other
 
-pub no_findings : (s : List ℕ) (n : ℕ) (out : List ℕ) → Spelled (finding_lines (decode 0 s)) n out n out
+pub no_findings : (s : List ℕ) (t : Text) → Grown (finding_lines (decode 0 s)) t t
 unfolding finding_lines
-no_findings s n out = rw (decode_none s) (put_nothing n out)
+no_findings s t = rw (decode_none s) (grown_nothing t)
 
-pub one_finding : (s : List ℕ) (k : ℕ) {n m r : ℕ} {x y z : List ℕ}
-    → Spelled (finding_lines (decode k s)) n x m y → Spelled (finding_line (entry_of s k)) m y r z → Spelled (finding_lines (decode (k + 1) s)) n x r z
-one_finding s k p q = rw (add-one k, findings_next s k) (p ⨾ q)
+pub one_finding : (s : List ℕ) (k : ℕ) {t u v : Text}
+    → Grown (finding_lines (decode k s)) t u → Grown (finding_line (entry_of s k)) u v → Grown (finding_lines (decode (k + 1) s)) t v
+one_finding s k p q = rw (add-one k, findings_next s k) (p then q)
 
-pub all_findings : (s : List ℕ) {k count n m : ℕ} {x y : List ℕ} → k ≤ count → count ≤ k → Spelled (finding_lines (decode k s)) n x m y
-    → Spelled (finding_lines (decode count s)) n x m y
-all_findings s {k} {count} {n} {m} {x} {y} h l p =
-    let e : k ≡ count = omega arith in
-    subst (λ (i : ℕ). Spelled (finding_lines (decode i s)) n x m y) e p
-
-module _ (r : Record) (s : List ℕ) {n m : ℕ} {x y : List ℕ} where
-  pub reported_lines : {count last : ℕ} {z : List ℕ} → r.answer ≡ Ok count
-      → Spelled (record_line r) n x m y → Spelled (finding_lines (decode count s)) m y last z → Spelled (record_lines r s) n x last z
+module _ (r : Record) (s : List ℕ) {t u : Text} where
+  pub reported_lines : {count : ℕ} {v : Text} → r.answer ≡ Ok count
+      → Grown (record_line r) t u → Grown (finding_lines (decode count s)) u v → Grown (record_lines r s) t v
   unfolding record_lines
-  reported_lines {last = last} {z = z} e p q =
-      subst (λ (a : Result ℕ Refusal). Spelled (record_line r ++ finding_lines (reported_entries a s)) n x last z) (sym e) (p ⨾ q)
+  reported_lines {v = v} e p q = subst (λ (a : Result ℕ Refusal). Grown (record_line r ++ finding_lines (reported_entries a s)) t v) (sym e) (p then q)
 
-  pub refused_lines : {refusal : Refusal} → r.answer ≡ Err refusal → Spelled (record_line r) n x m y → Spelled (record_lines r s) n x m y
+  pub refused_lines : {refusal : Refusal} → r.answer ≡ Err refusal → Grown (record_line r) t u → Grown (record_lines r s) t u
   unfolding record_lines finding_lines
-  refused_lines e p = subst (λ (a : Result ℕ Refusal). Spelled (record_line r ++ finding_lines (reported_entries a s)) n x m y) (sym e) (p ⨾ put_nothing m y)
+  refused_lines e p = subst (λ (a : Result ℕ Refusal). Grown (record_line r ++ finding_lines (reported_entries a s)) t u) (sym e) (p then grown_nothing u)

@@ -5,7 +5,7 @@
 --     one_filling        S11: any two answers that the contract of a fill allows coincide, and so do the buffers
 -- Assumes nothing.
 use mathlib.Core.Path.{◌≡◌, refl, sym, ap, ap₂, subst, ◌∙◌}
-use mathlib.Core.Bool.{Bool, true, false, false≢true, cond}
+use mathlib.Core.Bool.{Bool, true, false, cond}
 use mathlib.Core.Logic.{⊎_elim}
 use mathlib.Core.List.{List, [], ◌∷◌, ◌++◌, append_assoc, append-nil}
 use Prim.Native.Nat.{ℕ, zero, suc, ◌+◌, ◌*◌, ◌≤◌, ◌<◌}
@@ -14,6 +14,7 @@ use lib.ListN.{length, take, drop, length-append}
 use lib.Seq.{take_at}
 use lib.Dec.{leb}
 use borrow.Author.Tests.{leb-true, le-leb}
+use Rattle.std.specs.Prelude.{Option, Some, None}
 use Rattle.listing.specs.Lines.{total_line, too_long_line}
 use Rattle.listing.specs.Listing.{program_room, handed_lines, lines_of, listing_of, printed}
 use Rattle.listing.specs.Filling.{nothing_listed, one_more, advanced, counts_in, item_space, Portion, if_space, all_of, portion_of, items_from, deck_portion, Filled, Writes, ends, goes_on}
@@ -40,9 +41,14 @@ remaining total p (h ∷ hs) = handed_lines h ++ remaining total (advanced p h.i
 unfoldable listed_from : List ℕ → Progress → List ℕ
 listed_from deck p = cond (leb (length deck) 65536) (remaining (length (blocks deck)) p (items_from deck p.position)) too_long_line
 
-abbrev unless_done : Bool → List ℕ → List ℕ
-unless_done true later = []
-unless_done false later = later
+-- what is listed from where the listing goes on, or nothing
+abbrev onward : (Progress → List ℕ) → Option Progress → List ℕ
+onward later None = []
+onward later (Some p) = later p
+
+onward_as : {later other : Progress → List ℕ} → ((p : Progress) → later p ≡ other p) → (next : Option Progress) → onward later next ≡ onward other next
+onward_as e None = refl
+onward_as e (Some p) = e p
 
 -- ---- what is handed over from a position on, taken apart
 
@@ -78,9 +84,7 @@ module _ (deck : List ℕ) (i : ℕ) (h : Handed) (hs : List Handed) (e : h ∷ 
 module _ (deck : List ℕ) (size total : ℕ) where
   abbrev Covers : ℕ → Progress → List Handed → Type 0
   Covers n p hs =
-      (portion_of size total n p hs).text
-      ++ unless_done (portion_of size total n p hs).done
-      (remaining total (portion_of size total n p hs).next (items_from deck (portion_of size total n p hs).next.position))
+      (portion_of size total n p hs).text ++ onward (λ q. remaining total q (items_from deck q.position)) (portion_of size total n p hs).next
       ≡ remaining total p hs
 
   portion_covers : (hs : List Handed) (n : ℕ) (p : Progress) → hs ≡ items_from deck p.position → Covers n p hs
@@ -101,19 +105,24 @@ module _ (deck : List ℕ) (size total : ℕ) where
       go false t later = rw t (ap (λ (xs : List Handed). remaining total p xs) (sym e))
 
 deck_covers : (deck : List ℕ) (p : Progress) (size : ℕ)
-    → (deck_portion deck p size).text ++ unless_done (deck_portion deck p size).done (listed_from deck (deck_portion deck p size).next) ≡ listed_from deck p
+    → (deck_portion deck p size).text ++ onward (listed_from deck) (deck_portion deck p size).next ≡ listed_from deck p
 unfolding deck_portion listed_from
 deck_covers deck p size = go (leb (length deck) 65536) refl
   where
     go : (b : Bool) → leb (length deck) 65536 ≡ b
-        → (deck_portion deck p size).text ++ unless_done (deck_portion deck p size).done (listed_from deck (deck_portion deck p size).next) ≡ listed_from deck p
-    go true t = rw t (portion_covers deck size (length (blocks deck)) (items_from deck p.position) 0 p refl)
+        → (deck_portion deck p size).text ++ onward (listed_from deck) (deck_portion deck p size).next ≡ listed_from deck p
+    go true t =
+        let x : Portion = portion_of size (length (blocks deck)) 0 p (items_from deck p.position) in
+        let same : (q : Progress) → listed_from deck q ≡ remaining (length (blocks deck)) q (items_from deck q.position) = λ q. rw t in
+        rw t
+        (ap (λ (l : List ℕ). x.text ++ l) (onward_as same x.next)
+        ∙ portion_covers deck size (length (blocks deck)) (items_from deck p.position) 0 p refl)
     go false t = rw t (by_space (leb (0 + item_space) size) refl)
       where
         by_space : (b : Bool) → leb (0 + item_space) size ≡ b
-            → (if_space size 0 p (all_of p too_long_line)).text ++ unless_done (if_space size 0 p (all_of p too_long_line)).done too_long_line ≡ too_long_line
+            → (if_space size 0 p (all_of too_long_line)).text ++ onward (listed_from deck) (if_space size 0 p (all_of too_long_line)).next ≡ too_long_line
         by_space true s = rw s (append-nil too_long_line)
-        by_space false s = rw s
+        by_space false s = rw (s, t)
 
 -- ---- from the start
 
@@ -169,9 +178,6 @@ module _ {portion : Portion} {out last : List ℕ} {r : Filling} (f : Filled por
   put_front =
       rw (f.told, f.octets) (take_at portion.text (drop (length portion.text) out) (length portion.text) refl)
 
-  put_done : r.done ≡ portion.done
-  put_done = ap (λ (x : Filling). x.done) f.told
-
   -- what was put is in the buffer
   pub fill_inside : length last ≡ length out → r.end ≤ length out
   fill_inside same =
@@ -188,13 +194,12 @@ writes_listed deck p text (ends _ out last r f d) =
     let x : Portion = deck_portion deck p (length out) in
     put_front f
     ∙ sym (append-nil x.text)
-    ∙ ap (λ (b : Bool). x.text ++ unless_done b (listed_from deck x.next)) (sym d ∙ put_done f)
+    ∙ ap (λ (next : Option Progress). x.text ++ onward (listed_from deck) next) (sym d ∙ put_next f)
     ∙ deck_covers deck p (length out)
-writes_listed deck p text (goes_on _ out last r later f d w) =
+writes_listed deck p text (goes_on _ q out last r later f d w) =
     let x : Portion = deck_portion deck p (length out) in
-    ap₂ (λ (a b : List ℕ). a ++ b) (put_front f)
-    (writes_listed deck r.next later w ∙ ap (λ (q : Progress). listed_from deck q) (put_next f))
-    ∙ ap (λ (b : Bool). x.text ++ unless_done b (listed_from deck x.next)) (sym d ∙ put_done f)
+    ap₂ (λ (a b : List ℕ). a ++ b) (put_front f) (writes_listed deck q later w)
+    ∙ ap (λ (next : Option Progress). x.text ++ onward (listed_from deck) next) (sym d ∙ put_next f)
     ∙ deck_covers deck p (length out)
 
 pub writes_printed : (deck text : List ℕ) → Writes deck nothing_listed text → text ≡ printed deck
@@ -206,19 +211,31 @@ one_filling f g = (f.told ∙ sym g.told, f.octets ∙ sym g.octets)
 
 -- ---- a fill moves on
 
+none_some : (q : Progress) → ◌≡◌ {A = Option Progress} None (Some q) → ⊥
+none_some q e = cc
+
+-- it goes on from a position no lower than this one
+abbrev FromOn : ℕ → Option Progress → Type 0
+FromOn position None = Unit {0}
+FromOn position (Some q) = position ≤ q.position
+
+from_on : (i j : ℕ) → i ≤ j → (next : Option Progress) → FromOn j next → FromOn i next
+from_on i j h None l = tt
+from_on i j h (Some q) l = omega (arith, h, l)
+
 module _ (size total : ℕ) where
-  goes_forward : (hs : List Handed) (n : ℕ) (p : Progress) → p.position ≤ (portion_of size total n p hs).next.position
+  goes_forward : (hs : List Handed) (n : ℕ) (p : Progress) → FromOn p.position (portion_of size total n p hs).next
   goes_forward [] n p = go (leb (n + item_space) size) refl
     where
-      go : (b : Bool) → leb (n + item_space) size ≡ b → p.position ≤ (portion_of size total n p []).next.position
-      go true t = rw t (omega arith)
+      go : (b : Bool) → leb (n + item_space) size ≡ b → FromOn p.position (portion_of size total n p []).next
+      go true t = rw t tt
       go false t = rw t (omega arith)
   goes_forward (h ∷ hs) n p = go (leb (n + item_space) size) refl (goes_forward hs (n + length (handed_lines h)) (advanced p h.item))
     where
       go : (b : Bool) → leb (n + item_space) size ≡ b
-          → (advanced p h.item).position ≤ (portion_of size total (n + length (handed_lines h)) (advanced p h.item) hs).next.position
-          → p.position ≤ (portion_of size total n p (h ∷ hs)).next.position
-      go true t later = rw t (omega (arith, later, advanced_position p h.item))
+          → FromOn (advanced p h.item).position (portion_of size total (n + length (handed_lines h)) (advanced p h.item) hs).next
+          → FromOn p.position (portion_of size total n p (h ∷ hs)).next
+      go true t later = rw t (from_on p.position (advanced p h.item).position (omega (arith, advanced_position p h.item)) _ later)
       go false t later = rw t (omega arith)
 
 pub record Moves (deck : List ℕ) (before after : ℕ) : Type 0 where
@@ -229,28 +246,26 @@ module _ (deck : List ℕ) (p : Progress) (size : ℕ) (space : item_space ≤ s
   fits : leb (0 + item_space) size ≡ true
   fits = le-leb (0 + item_space) size (omega (arith, space))
 
-  portion_moves : (hs : List Handed) → hs ≡ items_from deck p.position → (portion_of size (length (blocks deck)) 0 p hs).done ≡ false
-      → Moves deck p.position (portion_of size (length (blocks deck)) 0 p hs).next.position
-  portion_moves [] e d = absurd (false≢true (sym d ∙ rw fits))
-  portion_moves (h ∷ hs) e d =
-      let later = goes_forward size (length (blocks deck)) hs (0 + length (handed_lines h)) (advanced p h.item) in
-      rw fits
+  portion_moves : (hs : List Handed) → hs ≡ items_from deck p.position → (q : Progress)
+      → (portion_of size (length (blocks deck)) 0 p hs).next ≡ Some q → Moves deck p.position q.position
+  portion_moves [] e q d = absurd (none_some q (rw fits at d))
+  portion_moves (h ∷ hs) e q d =
+      let next : Progress = advanced p h.item in
+      let later : next.position ≤ q.position =
+      subst (λ (x : Option Progress). FromOn next.position x) (rw fits at d) (goes_forward size (length (blocks deck)) hs (0 + length (handed_lines h)) next) in
       record {
         on = omega (arith, later, advanced_position p h.item, first_moves deck p.position h hs e);
         inside = before_end deck p.position h hs e;
       }
 
-  deck_moves : (deck_portion deck p size).done ≡ false → Moves deck p.position (deck_portion deck p size).next.position
+  deck_moves : (q : Progress) → (deck_portion deck p size).next ≡ Some q → Moves deck p.position q.position
   unfolding deck_portion
-  deck_moves = go (leb (length deck) 65536) refl
+  deck_moves q = go (leb (length deck) 65536) refl
     where
-      go : (b : Bool) → leb (length deck) 65536 ≡ b → (deck_portion deck p size).done ≡ false
-          → Moves deck p.position (deck_portion deck p size).next.position
-      go true t d = rw t (portion_moves (items_from deck p.position) refl (rw t at d))
-      go false t d = absurd (false≢true (sym d ∙ rw (t, fits)))
+      go : (b : Bool) → leb (length deck) 65536 ≡ b → (deck_portion deck p size).next ≡ Some q → Moves deck p.position q.position
+      go true t d = portion_moves (items_from deck p.position) refl q (rw t at d)
+      go false t d = absurd (none_some q (rw (t, fits) at d))
 
-pub fill_moves : (deck : List ℕ) (p : Progress) (out : List ℕ) {r : Filling} {last : List ℕ} → item_space ≤ length out
-    → Filled (deck_portion deck p (length out)) out r last → r.done ≡ false → Moves deck p.position r.next.position
-fill_moves deck p out {r} space f d =
-    subst (λ (q : Progress). Moves deck p.position q.position) (sym (put_next f))
-    (deck_moves deck p (length out) space (sym (put_done f) ∙ d))
+pub fill_moves : (deck : List ℕ) (p : Progress) (out : List ℕ) {r : Filling} {last : List ℕ} {q : Progress} → item_space ≤ length out
+    → Filled (deck_portion deck p (length out)) out r last → r.next ≡ Some q → Moves deck p.position q.position
+fill_moves deck p out {q = q} space f d = deck_moves deck p (length out) space q (sym (put_next f) ∙ d)

@@ -11,7 +11,8 @@ use native.Mathlib.Omega.{arith}
 use lib.ListN.{length, set, take, drop, length-set, length-drop, drop_of_length-le}
 use lib.Seq.{take_all, drop-cons, drop-set-lt, get_or-set_same, append_snoc}
 use Rattle.texts.specs.Texts.{decimal}
-use Rattle.texts.specs.Putting.{Spelled}
+use Rattle.texts.specs.Putting.{Grown}
+use Rattle.texts.specs.declared.putting.Text.{Text}
 use Rattle.texts.proofs.Laws.Decimal.{one_digit, more_digits, tenth}
 
 -- those from place i on are written, and `rest` is left to be written before them
@@ -68,8 +69,8 @@ module _ {x : ℕ} {space : List ℕ} {rest i : ℕ} (w : Begun x space rest i) 
   digit_last h =
       (in_front rest ∙ ap (λ (l : List ℕ). l ++ drop i space) (sym (one_digit rest h)) ∙ w.digits, omega (arith, w.some, w.most))
 
-pub digits_put : (x at : ℕ) (space : List ℕ) {n r : ℕ} {out last : List ℕ}
-    → length space ≡ 20 → drop at space ≡ decimal x → Spelled (take (20 - at) (drop at space)) n out r last → Spelled (decimal x) n out r last
-digits_put x at space {n} {r} {out} {last} l e p =
+pub digits_put : (x at : ℕ) (space : List ℕ) {t u : Text}
+    → length space ≡ 20 → drop at space ≡ decimal x → Grown (take (20 - at) (drop at space)) t u → Grown (decimal x) t u
+digits_put x at space {t} {u} l e p =
     let all : length (drop at space) ≤ 20 - at = simp (length-drop, l) (omega arith) in
-    subst (λ (t : List ℕ). Spelled t n out r last) (take_all (20 - at) (drop at space) all ∙ e) p
+    subst (λ (bs : List ℕ). Grown bs t u) (take_all (20 - at) (drop at space) all ∙ e) p

@@ -1,9 +1,9 @@
 -- Putting texts into a buffer.
 --     put_in, put_out      one octet
 --     put_nothing, _⨾_     no text; one text behind the other
---     put_next, put_all    a text put octet by octet
 --     put_whole            where the buffer is large enough the text stands at its place, and all else is as it was
 --     put_inside           the place behind a text is in the buffer, if the place before it is
+--     grown_nothing, _then_, grown_next     the same of texts that grow: no octets, one behind the other, and octet by octet
 --     one_answer           any two answers and buffers that the contract of such a function allows coincide
 -- Assumes nothing.
 use mathlib.Core.Path.{◌≡◌, refl, sym, ap, ◌∙◌}
@@ -13,10 +13,11 @@ use Prim.Native.Nat.{ℕ, suc, ◌+◌, ◌≤◌, ◌<◌, min, max}
 use native.Mathlib.Numerals.{add-one}
 use native.Mathlib.Omega.{arith}
 use lib.ListN.{length, get_or, set, take, drop, length-set, length-append}
-use lib.Seq.{sets, sets-eq, set_out, length-sets, take-suc, take_all}
+use lib.Seq.{sets, sets-eq, set_out, length-sets, take-suc}
 use lib.Dec.{ltb}
 use borrow.Author.Tests.{ltb-true, ltb-false}
-use Rattle.texts.specs.Putting.{place_after, buffer_after, Spelled}
+use Rattle.texts.specs.Putting.{place_after, buffer_after, Spelled, Grown}
+use Rattle.texts.specs.declared.putting.Text.{Text}
 use Rattle.octets.proofs.Laws.Writing.{sets_append}
 
 module _ (b n : ℕ) (out : List ℕ) where
@@ -85,12 +86,17 @@ module _ {bs : List ℕ} {n r : ℕ} {out last : List ℕ} (p : Spelled bs n out
   pub one_answer : {r' : ℕ} {last' : List ℕ} → Spelled bs n out r' last' → (r ≡ r') × (last ≡ last')
   one_answer q = (p.place ∙ sym q.place, p.octets ∙ sym q.octets)
 
--- ---- a text put octet by octet
+-- ---- texts that grow
 
-module _ (text : List ℕ) (i : ℕ) {n m : ℕ} {x y : List ℕ} where
-  pub put_next : {r : ℕ} {z : List ℕ} → i < length text → Spelled (take i text) n x m y
-      → Spelled (get_or text i 0 ∷ []) m y r z → Spelled (take (i + 1) text) n x r z
-  put_next h p q = rw (add-one i, take-suc text i 0 h) (p ⨾ q)
+pub grown_nothing : (t : Text) → Grown [] t t
+grown_nothing t = record { spelled = put_nothing t.len t.space.now; same_space = refl }
 
-  pub put_all : length text ≤ i → Spelled (take i text) n x m y → Spelled text n x m y
-  put_all h p = rw (take_all i text h) at p
+module _ {us vs : List ℕ} {t u v : Text} where
+  infixr 20 ◌then◌
+  pub ◌then◌ : Grown us t u → Grown vs u v → Grown (us ++ vs) t v
+  ◌then◌ p q = record { spelled = p.spelled ⨾ q.spelled; same_space = q.same_space ∙ p.same_space }
+
+-- octet by octet
+pub grown_next : (text : List ℕ) (i : ℕ) {t u v : Text} → i < length text → Grown (take i text) t u → Grown (get_or text i 0 ∷ []) u v
+    → Grown (take (i + 1) text) t v
+grown_next text i h p q = rw (add-one i, take-suc text i 0 h) (p then q)

@@ -8,5 +8,5 @@ returns c =
     let a = c.args in
     record {
       spelled = c.total_line.ensures;
-      total_len_bound = last_whole a.records a.lost a.total (omega arith) (omega arith) (omega arith);
+      total_len_bound = last_whole a.p.records a.p.lost a.total (omega arith) (omega arith) (omega arith);
     }

@@ -1,6 +1,0 @@
--- `listing::filling::has_space` meets its contract. Assumes nothing.
-use Rattle.listing.proofs.filling.has_space.Goals as goal
-
--- so many octets as the code keeps free are those of the definition
-pub returns : goal.returns
-returns c = c.within.ensures
