@@ -2,7 +2,8 @@
 ghost use Rattle.std.specs.Prelude.{[], ◌∷◌};
 ghost use Rattle.der.specs.Header.{children_of};
 ghost use Rattle.report.specs.Forms.{filter, ones_of};
-ghost use Rattle.report.specs.Rows.{◌⦂◌, Puts};
+ghost use Rattle.report.specs.Rows.{◌⦂◌};
+ghost use Rattle.report.specs.Sinks.{SinkPuts};
 ghost use Rattle.forms.specs.Kinds.{of_kind};
 ghost use Rattle.forms.specs.Lists.{items_within, attributes_in};
 
@@ -11,32 +12,30 @@ use crate::loops::{each, each_within, one_within};
 use crate::nests::Nest;
 use der::Head;
 use profiles::Profile;
+use report::Sink;
 
 // The items are the elements from `from` to `to`.
 pub fn judge_each(
-    room: &mut [u8],
-    n: usize,
+    sink: &mut Sink,
     p: Profile,
     rule: usize,
     kind: Kind,
     s: &[u8],
     from: usize,
     to: usize,
-) -> usize
-    ensures { Puts p
+)
+    ensures { SinkPuts p
         (rule ⦂ filter (of_kind kind p s.now) (children_of s.now from to) ∷ [])
-        n room.old result room.new }
+        sink.old sink.new }
 {
     if profiles::holds(p, rule) {
-        return each(room, n, rule, kind, p, s, from, to);
+        each(sink, rule, kind, p, s, from, to);
     }
-    n
 }
 
 // The items are those within the elements from `from` to `to`.
 pub fn judge_within(
-    room: &mut [u8],
-    n: usize,
+    sink: &mut Sink,
     p: Profile,
     rule: usize,
     nest: Nest,
@@ -44,33 +43,23 @@ pub fn judge_within(
     s: &[u8],
     from: usize,
     to: usize,
-) -> usize
-    ensures { Puts p
+)
+    ensures { SinkPuts p
         (rule ⦂ filter (of_kind kind p s.now) (items_within nest s.now from to) ∷ [])
-        n room.old result room.new }
+        sink.old sink.new }
 {
     if profiles::holds(p, rule) {
-        return each_within(room, n, rule, nest, kind, p, s, from, to);
+        each_within(sink, rule, nest, kind, p, s, from, to);
     }
-    n
 }
 
 // The items are the attributes of a name.
-pub fn judge_one(
-    room: &mut [u8],
-    n: usize,
-    p: Profile,
-    rule: usize,
-    kind: Kind,
-    s: &[u8],
-    name: Head,
-) -> usize
-    ensures { Puts p
+pub fn judge_one(sink: &mut Sink, p: Profile, rule: usize, kind: Kind, s: &[u8], name: Head)
+    ensures { SinkPuts p
         (rule ⦂ ones_of name (filter (of_kind kind p s.now) (attributes_in s.now name)) ∷ [])
-        n room.old result room.new }
+        sink.old sink.new }
 {
     if profiles::holds(p, rule) {
-        return one_within(room, n, rule, kind, p, s, name);
+        one_within(sink, rule, kind, p, s, name);
     }
-    n
 }

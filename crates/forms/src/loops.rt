@@ -1,7 +1,7 @@
 // "Each" and "one X" (document 01, "Rules on fields"): an entry for each item that breaks the rule. One loop for all
 // kinds, and no branch in it that writes.
 ghost use Rattle.der.specs.Header.{children_of};
-ghost use Rattle.report.specs.Putting.{Put};
+ghost use Rattle.report.specs.Sinks.{SinkPut};
 ghost use Rattle.report.specs.Workings.Forms.{each as each_of, one, is_behind};
 ghost use Rattle.forms.specs.Kinds.{of_kind};
 ghost use Rattle.forms.specs.Lists.{items_within, attributes_in};
@@ -11,11 +11,11 @@ use crate::kinds::{Kind, is_of_kind};
 use crate::nests::{Nest, holder_in};
 use der::Head;
 use profiles::Profile;
+use report::Sink;
 
 // The items are those of the elements from `from` to `to` that start at `place` or behind it.
 fn each_behind(
-    room: &mut [u8],
-    n: usize,
+    sink: &mut Sink,
     rule: usize,
     kind: Kind,
     p: Profile,
@@ -23,44 +23,32 @@ fn each_behind(
     place: usize,
     from: usize,
     to: usize,
-) -> usize
-    ensures { Put
+)
+    ensures { SinkPut
         (each_of rule (is_behind (of_kind kind p s.now) place) (children_of s.now from to))
-        n room.old result room.new }
+        sink.old sink.new }
 {
-    let mut count = n;
     let mut at = from;
     while at < to {
         let item = der::head_at(s, at, to);
         let bad = is_of_kind(kind, p, s, item);
-        count = report::note(room, count, rule, bad & (place <= item.at), item);
+        sink.note(rule, bad & (place <= item.at), item);
         at = item.end;
     }
-    count
 }
 
 // The items are the elements from `from` to `to`.
-pub fn each(
-    room: &mut [u8],
-    n: usize,
-    rule: usize,
-    kind: Kind,
-    p: Profile,
-    s: &[u8],
-    from: usize,
-    to: usize,
-) -> usize
-    ensures { Put
+pub fn each(sink: &mut Sink, rule: usize, kind: Kind, p: Profile, s: &[u8], from: usize, to: usize)
+    ensures { SinkPut
         (each_of rule (of_kind kind p s.now) (children_of s.now from to))
-        n room.old result room.new }
+        sink.old sink.new }
 {
-    each_behind(room, n, rule, kind, p, s, 0, from, to)
+    each_behind(sink, rule, kind, p, s, 0, from, to);
 }
 
 // The items are those within the elements from `from` to `to` that start at `place` or behind it.
 fn each_within_behind(
-    room: &mut [u8],
-    n: usize,
+    sink: &mut Sink,
     rule: usize,
     nest: Nest,
     kind: Kind,
@@ -69,36 +57,23 @@ fn each_within_behind(
     place: usize,
     from: usize,
     to: usize,
-) -> usize
-    ensures { Put
+)
+    ensures { SinkPut
         (each_of rule (is_behind (of_kind kind p s.now) place) (items_within nest s.now from to))
-        n room.old result room.new }
+        sink.old sink.new }
 {
-    let mut count = n;
     let mut at = from;
     while at < to {
         let h = der::head_at(s, at, to);
         let holder = holder_in(nest, s, h);
-        count = each_behind(
-            room,
-            count,
-            rule,
-            kind,
-            p,
-            s,
-            place,
-            holder.body,
-            holder.end,
-        );
+        each_behind(sink, rule, kind, p, s, place, holder.body, holder.end);
         at = h.end;
     }
-    count
 }
 
 // The items are those within the elements from `from` to `to`.
 pub fn each_within(
-    room: &mut [u8],
-    n: usize,
+    sink: &mut Sink,
     rule: usize,
     nest: Nest,
     kind: Kind,
@@ -106,33 +81,24 @@ pub fn each_within(
     s: &[u8],
     from: usize,
     to: usize,
-) -> usize
-    ensures { Put
+)
+    ensures { SinkPut
         (each_of rule (of_kind kind p s.now) (items_within nest s.now from to))
-        n room.old result room.new }
+        sink.old sink.new }
 {
-    each_within_behind(room, n, rule, nest, kind, p, s, 0, from, to)
+    each_within_behind(sink, rule, nest, kind, p, s, 0, from, to);
 }
 
 // "One X" among the attributes of the sets of a name, where X is an attribute of the kind.
-pub fn one_within(
-    room: &mut [u8],
-    n: usize,
-    rule: usize,
-    kind: Kind,
-    p: Profile,
-    s: &[u8],
-    name: Head,
-) -> usize
-    ensures { Put
+pub fn one_within(sink: &mut Sink, rule: usize, kind: Kind, p: Profile, s: &[u8], name: Head)
+    ensures { SinkPut
         (one rule (of_kind kind p s.now) name (attributes_in s.now name))
-        n room.old result room.new }
+        sink.old sink.new }
 {
     let found = first_within(Nest::Set, kind, p, s, name.body, name.end);
-    let count = report::note(room, n, rule, found.end <= found.at, name);
+    sink.note(rule, found.end <= found.at, name);
     each_within_behind(
-        room,
-        count,
+        sink,
         rule,
         Nest::Set,
         kind,
@@ -141,5 +107,5 @@ pub fn one_within(
         found.end,
         name.body,
         name.end,
-    )
+    );
 }

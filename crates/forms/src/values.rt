@@ -3,7 +3,8 @@
 ghost use Rattle.std.specs.Prelude.{[], ◌∷◌};
 ghost use Rattle.der.specs.Members.{members_in};
 ghost use Rattle.report.specs.Forms.{filter};
-ghost use Rattle.report.specs.Rows.{◌⦂◌, broken_at, Puts};
+ghost use Rattle.report.specs.Rows.{◌⦂◌, broken_at};
+ghost use Rattle.report.specs.Sinks.{SinkPuts};
 ghost use Rattle.forms.specs.Kinds.{of_kind};
 ghost use Rattle.forms.specs.Lists.{items_within};
 ghost use Rattle.forms.specs.Values.{if_good};
@@ -13,53 +14,43 @@ use crate::kinds::Kind;
 use crate::nests::Nest;
 use certificate::Slot;
 use profiles::Profile;
+use report::Sink;
 
 // At the OCTET STRING.
-pub fn judge_value(room: &mut [u8], n: usize, p: Profile, rule: usize, v: Slot, bad: bool) -> usize
-    ensures { Puts p (rule ⦂ if_good v (broken_at bad v.holder) ∷ []) n room.old result room.new }
+pub fn judge_value(sink: &mut Sink, p: Profile, rule: usize, v: Slot, bad: bool)
+    ensures { SinkPuts p (rule ⦂ if_good v (broken_at bad v.holder) ∷ []) sink.old sink.new }
 {
-    report::judge(room, n, p, rule, v.good & bad, v.holder)
+    sink.judge(p, rule, v.good & bad, v.holder);
 }
 
 // At each item of this kind.
-pub fn judge_items(
-    room: &mut [u8],
-    n: usize,
-    p: Profile,
-    rule: usize,
-    kind: Kind,
-    s: &[u8],
-    v: Slot,
-) -> usize
-    ensures { Puts p
+pub fn judge_items(sink: &mut Sink, p: Profile, rule: usize, kind: Kind, s: &[u8], v: Slot)
+    ensures { SinkPuts p
         (rule ⦂ if_good v (filter (of_kind kind p s.now) (members_in s.now v.element)) ∷ [])
-        n room.old result room.new }
+        sink.old sink.new }
 {
     if v.good {
         let list = v.element;
-        return judge_each(room, n, p, rule, kind, s, list.body, list.end);
+        judge_each(sink, p, rule, kind, s, list.body, list.end);
     }
-    n
 }
 
 // At each item of this kind within the members.
 pub fn judge_inner(
-    room: &mut [u8],
-    n: usize,
+    sink: &mut Sink,
     p: Profile,
     rule: usize,
     nest: Nest,
     kind: Kind,
     s: &[u8],
     v: Slot,
-) -> usize
-    ensures { Puts p
+)
+    ensures { SinkPuts p
         (rule ⦂ if_good v (filter (of_kind kind p s.now) (items_within nest s.now v.element.body v.element.end)) ∷ [])
-        n room.old result room.new }
+        sink.old sink.new }
 {
     if v.good {
         let list = v.element;
-        return judge_within(room, n, p, rule, nest, kind, s, list.body, list.end);
+        judge_within(sink, p, rule, nest, kind, s, list.body, list.end);
     }
-    n
 }

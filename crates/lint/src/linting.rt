@@ -2,7 +2,7 @@
 // writes.
 ghost use Rattle.std.specs.Prelude.{◌≡◌};
 ghost use Rattle.facts.specs.Case.{case_of};
-ghost use Rattle.report.specs.Rows.{findings_of};
+ghost use Rattle.report.specs.Rows.{findings_of, Puts};
 ghost use Rattle.rules.specs.Rules.{all_rules, findings};
 ghost use Rattle.lint.specs.Refusals.{answer_values};
 ghost use Rattle.lint.specs.Answers.{Answered};
@@ -13,6 +13,7 @@ use crate::reasons::{Refusal, refusal_values};
 use facts::Facts;
 use profiles::Profile;
 use refusals::{Values, unrefused};
+use report::Sink;
 
 // The paper's number, side, place and count of findings.
 pub fn answer_values(answer: Result<usize, Refusal>) -> Values
@@ -22,6 +23,15 @@ pub fn answer_values(answer: Result<usize, Refusal>) -> Values
         Ok(findings) => unrefused(findings),
         Err(r) => refusal_values(r),
     }
+}
+
+// A pass over all rules: the count of the findings by these facts, and the room with those that fit.
+fn pass(room: &mut [u8], p: Profile, s: &[u8], f: Facts, issuer: &[u8]) -> usize
+    ensures { Puts p (all_rules p (case_of s.now f issuer.now)) 0 room.old result room.new }
+{
+    let mut sink = Sink::new(room);
+    rules::all_rules(&mut sink, p, s, f, issuer);
+    sink.count
 }
 
 // The answer to the findings by these facts, and the room that they are written to.
@@ -34,12 +44,12 @@ fn report_facts(
 ) -> Result<usize, Refusal>
     ensures { Reported (findings_of p (all_rules p (case_of s.now f issuer.now))) room.old result room.new }
 {
-    let count = rules::all_rules(&mut room[..0], 0, p, s, f, issuer);
+    let count = pass(&mut room[..0], p, s, f, issuer);
     if !report::has_room(count, room.len()) {
         return Err(Refusal::NoRoom);
     }
     if 0 < count {
-        rules::all_rules(room, 0, p, s, f, issuer);
+        pass(room, p, s, f, issuer);
     }
     Ok(count)
 }

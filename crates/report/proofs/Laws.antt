@@ -8,3 +8,4 @@ pub mod Reading
 pub mod First
 pub mod Loops
 pub mod Rows
+pub mod Sinks

@@ -6,4 +6,5 @@ pub mod Answers
 pub mod Order
 pub mod Members
 pub mod Rows
+pub mod Sinks
 pub mod Workings

@@ -5,4 +5,4 @@ mod reading;
 mod sink;
 
 pub use reading::read_entry;
-pub use sink::{Entry, WIDTH, has_room, judge, note, put};
+pub use sink::{Entry, Sink, WIDTH, has_room};

@@ -4,8 +4,9 @@ ghost use Rattle.std.specs.Prelude.{◌≡◌, [], ◌∷◌, ◌+◌, ◌*◌, 
 ghost use Rattle.std.proofs.lemmas.List.Edits.{sets};
 ghost use Rattle.octets.specs.Numbers.{pair_of};
 ghost use Rattle.report.specs.Entries.{width, entry_at, noted};
-ghost use Rattle.report.specs.Putting.{Put, tick};
-ghost use Rattle.report.specs.Rows.{◌⦂◌, broken_at, Puts};
+ghost use Rattle.report.specs.Putting.{tick};
+ghost use Rattle.report.specs.Rows.{◌⦂◌, broken_at};
+ghost use Rattle.report.specs.Sinks.{IsOver, SinkPut, SinkPuts};
 
 use der::Head;
 use octets::Place;
@@ -51,22 +52,6 @@ fn write_pair(room: &mut [u8], at: usize, number: usize)
     room[at + 1] = (number % 256) as u8;
 }
 
-// Appends an entry to the n entries in the room, if it fits, and counts it in any case.
-pub fn put(room: &mut [u8], n: usize, e: Entry) -> usize
-    ensures { Put (e ∷ []) n room.old result room.new }
-{
-    let place = e.place;
-    if n < room.len() / WIDTH {
-        let at = WIDTH * n;
-        write_pair(room, at, e.rule);
-        write_pair(room, at + 2, place.start);
-        write_pair(room, at + 4, place.len);
-        write_pair(room, at + 6, e.level);
-        return n + 1;
-    }
-    one_more(n)
-}
-
 // The entry of a rule at an element.
 fn entry_at(rule: usize, h: Head) -> Entry
     ensures { result ≡ entry_at rule h }
@@ -80,20 +65,53 @@ fn entry_at(rule: usize, h: Head) -> Entry
     }
 }
 
-// What a rule does that judges one element: an entry at it where it is bad.
-pub fn note(room: &mut [u8], n: usize, rule: usize, bad: bool, h: Head) -> usize
-    ensures { Put (noted rule bad h) n room.old result room.new }
-{
-    if bad {
-        return put(room, n, entry_at(rule, h));
-    }
-    n
+// Lent room, and how many entries have been put, those that did not fit too.
+#[derive(Drop)]
+pub struct Sink<'a> {
+    room: &'a mut [u8],
+    pub count: usize,
 }
 
-// What a rule does that judges one element: an entry at it where it is bad, in a profile that judges the rule.
-pub fn judge(room: &mut [u8], n: usize, p: Profile, rule: usize, bad: bool, h: Head) -> usize
-    ensures { Puts p (rule ⦂ broken_at bad h ∷ []) n room.old result room.new }
-{
-    let judged = profiles::holds(p, rule);
-    note(room, n, rule, judged & bad, h)
+impl<'a> Sink<'a> {
+    // Over room, before the first entry.
+    pub fn new(room: &'a mut [u8]) -> Sink<'a>
+        ensures { IsOver room.entry result }
+    {
+        Sink { room, count: 0 }
+    }
+
+    // Appends an entry, if it fits, and counts it in any case.
+    pub fn put(&mut self, e: Entry)
+        ensures { SinkPut (e ∷ []) self.old self.new }
+    {
+        let n = self.count;
+        let place = e.place;
+        if n < self.room.len() / WIDTH {
+            let at = WIDTH * n;
+            write_pair(self.room, at, e.rule);
+            write_pair(self.room, at + 2, place.start);
+            write_pair(self.room, at + 4, place.len);
+            write_pair(self.room, at + 6, e.level);
+            self.count = n + 1;
+            return;
+        }
+        self.count = one_more(n);
+    }
+
+    // What a rule does that judges one element: an entry at it where it is bad.
+    pub fn note(&mut self, rule: usize, bad: bool, h: Head)
+        ensures { SinkPut (noted rule bad h) self.old self.new }
+    {
+        if bad {
+            self.put(entry_at(rule, h));
+        }
+    }
+
+    // The same, in a profile that judges the rule.
+    pub fn judge(&mut self, p: Profile, rule: usize, bad: bool, h: Head)
+        ensures { SinkPuts p (rule ⦂ broken_at bad h ∷ []) self.old self.new }
+    {
+        let judged = profiles::holds(p, rule);
+        self.note(rule, judged & bad, h);
+    }
 }

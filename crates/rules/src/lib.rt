@@ -2,19 +2,20 @@
 #![tactic(auto)]
 
 ghost use Rattle.facts.specs.Case.{case_of};
-ghost use Rattle.report.specs.Rows.{Puts};
+ghost use Rattle.report.specs.Sinks.{SinkPuts};
 ghost use Rattle.rules.specs.Rules.{all_rules};
 
 use facts::Facts;
 use profiles::Profile;
+use report::Sink;
 
 // Appends the entries of a certificate with these facts.
-pub fn all_rules(room: &mut [u8], n: usize, p: Profile, s: &[u8], f: Facts, issuer: &[u8]) -> usize
-    ensures { Puts p (all_rules p (case_of s.now f issuer.now)) n room.old result room.new }
+pub fn all_rules(sink: &mut Sink, p: Profile, s: &[u8], f: Facts, issuer: &[u8])
+    ensures { SinkPuts p (all_rules p (case_of s.now f issuer.now)) sink.old sink.new }
 {
-    let fields = rules_fields::field_rules(room, n, p, s, f, issuer);
-    let subject = rules_subject::subject_rules(room, fields, p, s, f, issuer);
-    let key = rules_key::key_rules(room, subject, p, s, f, issuer);
-    let extensions = rules_extensions::extension_rules(room, key, p, s, f, issuer);
-    rules_values::value_rules(room, extensions, p, s, f, issuer)
+    rules_fields::field_rules(sink, p, s, f, issuer);
+    rules_subject::subject_rules(sink, p, s, f, issuer);
+    rules_key::key_rules(sink, p, s, f, issuer);
+    rules_extensions::extension_rules(sink, p, s, f, issuer);
+    rules_values::value_rules(sink, p, s, f, issuer);
 }

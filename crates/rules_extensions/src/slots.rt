@@ -4,12 +4,13 @@ ghost use Rattle.std.specs.Prelude.{◌≡◌, [], ◌∷◌, ◌<◌};
 ghost use Rattle.certificate.specs.Slots.{slot_count};
 ghost use Rattle.certificate.specs.Standing.{standing_by, standings_by};
 ghost use Rattle.facts.specs.Case.{slot_in};
-ghost use Rattle.report.specs.Rows.{Puts};
+ghost use Rattle.report.specs.Sinks.{SinkPuts};
 ghost use Rattle.rules_extensions.specs.Slots.{list_place, is_miscritical_at, row_at, rows_over};
 
 use certificate::{Certificate, SLOTS, Slot};
 use der::Head;
 use profiles::Profile;
+use report::Sink;
 
 #[derive(Clone, Copy)]
 pub enum Question {
@@ -40,46 +41,29 @@ fn is_miscritical_at(p: Profile, slot: usize, critical: bool) -> bool
 }
 
 // The entry of one slot; `list` is the place of an extension that is missing.
-fn of_slot(
-    room: &mut [u8],
-    n: usize,
-    question: Question,
-    p: Profile,
-    list: Head,
-    slot: usize,
-    v: Slot,
-) -> usize
+fn of_slot(sink: &mut Sink, question: Question, p: Profile, list: Head, slot: usize, v: Slot)
     requires { slot < slot_count }
-    ensures { Puts p (row_at question p list slot (standing_by v) ∷ []) n room.old result room.new }
+    ensures { SinkPuts p (row_at question p list slot (standing_by v) ∷ []) sink.old sink.new }
 {
     let none = !v.good & der::is_none(v.place);
     match question {
-        Question::Missing => report::judge(room, n, p, 300 + slot, none, list),
+        Question::Missing => sink.judge(p, 300 + slot, none, list),
         Question::Criticality => {
             let bad = is_miscritical_at(p, slot, v.critical);
-            report::judge(room, n, p, 320 + slot, !none & bad, v.place)
+            sink.judge(p, 320 + slot, !none & bad, v.place)
         }
-        Question::Value => report::judge(room, n, p, 340 + slot, !none & !v.good, v.holder),
+        Question::Value => sink.judge(p, 340 + slot, !none & !v.good, v.holder),
     }
 }
 
 // The entries of all slots from 1 on; `list` is the place of an extension that is missing.
-pub fn over_slots(
-    room: &mut [u8],
-    n: usize,
-    question: Question,
-    p: Profile,
-    list: Head,
-    each: [Slot; SLOTS],
-) -> usize
-    ensures { Puts p (rows_over question p list (standings_by (slot_in each))) n room.old result room.new }
+pub fn over_slots(sink: &mut Sink, question: Question, p: Profile, list: Head, each: [Slot; SLOTS])
+    ensures { SinkPuts p (rows_over question p list (standings_by (slot_in each))) sink.old sink.new }
 {
-    let mut count = n;
     let mut slot = 1;
     while slot < SLOTS {
         let v = each[slot];
-        count = of_slot(room, count, question, p, list, slot, v);
+        of_slot(sink, question, p, list, slot, v);
         slot += 1;
     }
-    count
 }

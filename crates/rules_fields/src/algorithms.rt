@@ -1,12 +1,13 @@
 // Rules 105 to 108: the two signature algorithms and the issuer's name.
 ghost use Rattle.std.specs.Prelude.{◌≡◌};
 ghost use Rattle.der.specs.Order.{octets_of};
-ghost use Rattle.report.specs.Rows.{Puts};
+ghost use Rattle.report.specs.Sinks.{SinkPuts};
 ghost use Rattle.rules_fields.specs.Algorithms.{is_sha256_rsa, signature_rows};
 
 use certificate::Certificate;
 use der::Head;
 use profiles::Profile;
+use report::Sink;
 
 fn is_sha256_rsa(s: &[u8], algorithm: Head) -> bool
     ensures { result ≡ is_sha256_rsa s.now algorithm }
@@ -20,22 +21,21 @@ fn is_sha256_rsa(s: &[u8], algorithm: Head) -> bool
 
 // `name` is the issuer's subject, in its octets.
 pub fn algorithms_and_name(
-    room: &mut [u8],
-    n: usize,
+    sink: &mut Sink,
     p: Profile,
     s: &[u8],
     c: Certificate,
     issuer: &[u8],
     name: Head,
-) -> usize
-    ensures { Puts p (signature_rows s.now c (octets_of issuer.now name)) n room.old result room.new }
+)
+    ensures { SinkPuts p (signature_rows s.now c (octets_of issuer.now name)) sink.old sink.new }
 {
     let inner = !is_sha256_rsa(s, c.inner);
     let outer = !is_sha256_rsa(s, c.outer);
     let differ = !der::same_element(s, c.inner, s, c.outer);
     let stranger = !der::same_element(s, c.issuer, issuer, name);
-    let a = report::judge(room, n, p, 105, inner, c.inner);
-    let b = report::judge(room, a, p, 106, outer, c.outer);
-    let d = report::judge(room, b, p, 107, differ, c.outer);
-    report::judge(room, d, p, 108, stranger, c.issuer)
+    sink.judge(p, 105, inner, c.inner);
+    sink.judge(p, 106, outer, c.outer);
+    sink.judge(p, 107, differ, c.outer);
+    sink.judge(p, 108, stranger, c.issuer);
 }

@@ -6,26 +6,20 @@ mod period;
 mod version;
 
 ghost use Rattle.facts.specs.Case.{case_of};
-ghost use Rattle.report.specs.Rows.{Puts};
+ghost use Rattle.report.specs.Sinks.{SinkPuts};
 ghost use Rattle.rules_fields.specs.Rules.{field_rows};
 
 use facts::Facts;
 use profiles::Profile;
+use report::Sink;
 
 // All of them, in order.
-pub fn field_rules(
-    room: &mut [u8],
-    n: usize,
-    p: Profile,
-    s: &[u8],
-    f: Facts,
-    issuer: &[u8],
-) -> usize
-    ensures { Puts p (field_rows p (case_of s.now f issuer.now)) n room.old result room.new }
+pub fn field_rules(sink: &mut Sink, p: Profile, s: &[u8], f: Facts, issuer: &[u8])
+    ensures { SinkPuts p (field_rows p (case_of s.now f issuer.now)) sink.old sink.new }
 {
     let c = facts::fields_in(f);
     let i = facts::issuer_in(f);
-    let first = version::version_and_serial(room, n, p, s, c);
-    let second = algorithms::algorithms_and_name(room, first, p, s, c, issuer, i.name);
-    period::validity(room, second, p, c)
+    version::version_and_serial(sink, p, s, c);
+    algorithms::algorithms_and_name(sink, p, s, c, issuer, i.name);
+    period::validity(sink, p, c);
 }

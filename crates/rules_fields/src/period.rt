@@ -1,10 +1,11 @@
 // Rules 109 to 111: the validity.
 ghost use Rattle.std.specs.Prelude.{◌≡◌, not};
-ghost use Rattle.report.specs.Rows.{Puts};
+ghost use Rattle.report.specs.Sinks.{SinkPuts};
 ghost use Rattle.rules_fields.specs.Period.{within_limit, validity_rows};
 
 use certificate::Certificate;
 use profiles::{Limit, Profile};
+use report::Sink;
 use times::Validity;
 
 // Rule 111 is broken: so many days, or so many years by the calendar.
@@ -17,8 +18,8 @@ fn is_too_long(v: Validity, limit: Limit) -> bool
     }
 }
 
-pub fn validity(room: &mut [u8], n: usize, p: Profile, c: Certificate) -> usize
-    ensures { Puts p (validity_rows p c) n room.old result room.new }
+pub fn validity(sink: &mut Sink, p: Profile, c: Certificate)
+    ensures { SinkPuts p (validity_rows p c) sink.old sink.new }
 {
     let times = c.validity;
     let start = times.not_before;
@@ -27,8 +28,8 @@ pub fn validity(room: &mut [u8], n: usize, p: Profile, c: Certificate) -> usize
     let early_end = times::early_general(end);
     let reversed = times::reversed(times);
     let too_long = is_too_long(times, profiles::limit_of(p));
-    let a = report::judge(room, n, p, 109, early_start, c.not_before);
-    let b = report::judge(room, a, p, 109, early_end, c.not_after);
-    let d = report::judge(room, b, p, 110, reversed, c.period);
-    report::judge(room, d, p, 111, too_long, c.period)
+    sink.judge(p, 109, early_start, c.not_before);
+    sink.judge(p, 109, early_end, c.not_after);
+    sink.judge(p, 110, reversed, c.period);
+    sink.judge(p, 111, too_long, c.period);
 }

@@ -1,11 +1,12 @@
 // Rules 101 to 104: the version and the serial number.
 ghost use Rattle.std.specs.Prelude.{◌≡◌};
-ghost use Rattle.report.specs.Rows.{Puts};
+ghost use Rattle.report.specs.Sinks.{SinkPuts};
 ghost use Rattle.rules_fields.specs.Version.{is_v3, version_place, serial_length, is_above_zero, version_rows};
 
 use certificate::Certificate;
 use der::Head;
 use profiles::Profile;
+use report::Sink;
 
 // Whether the first member of the TBS structure is a version that says 2, which is v3.
 fn is_v3(s: &[u8], version: Head) -> bool
@@ -39,16 +40,16 @@ fn is_above_zero(s: &[u8], serial: Head) -> bool
     numbers::positive(s, serial.body, serial.end)
 }
 
-pub fn version_and_serial(room: &mut [u8], n: usize, p: Profile, s: &[u8], c: Certificate) -> usize
-    ensures { Puts p (version_rows s.now c) n room.old result room.new }
+pub fn version_and_serial(sink: &mut Sink, p: Profile, s: &[u8], c: Certificate)
+    ensures { SinkPuts p (version_rows s.now c) sink.old sink.new }
 {
     let serial = c.serial;
     let length = serial_length(serial);
     let place = version_place(c.version, c.tbs);
     let old = !is_v3(s, c.version);
     let negative = !is_above_zero(s, serial);
-    let a = report::judge(room, n, p, 101, old, place);
-    let b = report::judge(room, a, p, 102, negative, serial);
-    let d = report::judge(room, b, p, 103, 20 < length, serial);
-    report::judge(room, d, p, 104, length < 8, serial)
+    sink.judge(p, 101, old, place);
+    sink.judge(p, 102, negative, serial);
+    sink.judge(p, 103, 20 < length, serial);
+    sink.judge(p, 104, length < 8, serial);
 }

@@ -1,12 +1,13 @@
 // Rules 201 to 203: the key's algorithm.
 ghost use Rattle.std.specs.Prelude.{◌≡◌};
-ghost use Rattle.report.specs.Rows.{Puts};
+ghost use Rattle.report.specs.Sinks.{SinkPuts};
 ghost use Rattle.rules_key.specs.Algorithm.{allows_kind, lacks_null, lacks_curve, algorithm_rows};
 
 use crate::parameters::{is_curve, is_null};
 use certificate::{Key, KeyKind};
 use facts::{is_elliptic_curve, is_rsa};
 use profiles::Profile;
+use report::Sink;
 
 fn allows_kind(p: Profile, kind: KeyKind) -> bool
     ensures { result ≡ allows_kind p kind }
@@ -30,14 +31,14 @@ fn lacks_curve(s: &[u8], k: Key) -> bool
     is_elliptic_curve(kind) & !is_curve(s, k.parameters)
 }
 
-pub fn algorithm_rules(room: &mut [u8], n: usize, p: Profile, s: &[u8], k: Key) -> usize
-    ensures { Puts p (algorithm_rows p s.now k) n room.old result room.new }
+pub fn algorithm_rules(sink: &mut Sink, p: Profile, s: &[u8], k: Key)
+    ensures { SinkPuts p (algorithm_rows p s.now k) sink.old sink.new }
 {
     let kind = k.kind;
     let other = !allows_kind(p, kind);
     let null = lacks_null(s, k);
     let curve = lacks_curve(s, k);
-    let a = report::judge(room, n, p, 201, other, k.algorithm);
-    let b = report::judge(room, a, p, 202, null, k.algorithm);
-    report::judge(room, b, p, 203, curve, k.algorithm)
+    sink.judge(p, 201, other, k.algorithm);
+    sink.judge(p, 202, null, k.algorithm);
+    sink.judge(p, 203, curve, k.algorithm);
 }

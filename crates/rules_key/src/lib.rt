@@ -7,17 +7,18 @@ mod parameters;
 mod rsa;
 
 ghost use Rattle.facts.specs.Case.{case_of};
-ghost use Rattle.report.specs.Rows.{Puts};
+ghost use Rattle.report.specs.Sinks.{SinkPuts};
 ghost use Rattle.rules_key.specs.Rules.{key_rows};
 
 use facts::Facts;
 use profiles::Profile;
+use report::Sink;
 
 // All of them, in order.
-pub fn key_rules(room: &mut [u8], n: usize, p: Profile, s: &[u8], f: Facts, issuer: &[u8]) -> usize
-    ensures { Puts p (key_rows p (case_of s.now f issuer.now)) n room.old result room.new }
+pub fn key_rules(sink: &mut Sink, p: Profile, s: &[u8], f: Facts, issuer: &[u8])
+    ensures { SinkPuts p (key_rows p (case_of s.now f issuer.now)) sink.old sink.new }
 {
     let k = facts::key_in(f);
-    let first = algorithm::algorithm_rules(room, n, p, s, k);
-    rsa::rsa_rules(room, first, p, s, k)
+    algorithm::algorithm_rules(sink, p, s, k);
+    rsa::rsa_rules(sink, p, s, k);
 }

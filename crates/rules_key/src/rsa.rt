@@ -4,7 +4,7 @@ ghost use Rattle.der.specs.Contents.{contents_of};
 ghost use Rattle.octets.specs.Numbers.{number_of};
 ghost use Rattle.numbers.specs.Numbers.{modulus_ok, long_modulus, exponent_ok};
 ghost use Rattle.primes.specs.Primes.{free_of, primes_below};
-ghost use Rattle.report.specs.Rows.{Puts};
+ghost use Rattle.report.specs.Sinks.{SinkPuts};
 ghost use Rattle.rules_key.specs.Rsa.{rsa_rows};
 
 use crate::bits::rsa_key;
@@ -12,6 +12,7 @@ use certificate::Key;
 use der::Head;
 use facts::is_rsa;
 use profiles::Profile;
+use report::Sink;
 
 fn is_bad_modulus(s: &[u8], h: Head) -> bool
     ensures { result ≡ not (modulus_ok (number_of (contents_of s.now h))) }
@@ -41,8 +42,8 @@ fn is_divided(judged: bool, s: &[u8], h: Head) -> bool
     false
 }
 
-pub fn rsa_rules(room: &mut [u8], n: usize, p: Profile, s: &[u8], k: Key) -> usize
-    ensures { Puts p (rsa_rows s.now k) n room.old result room.new }
+pub fn rsa_rules(sink: &mut Sink, p: Profile, s: &[u8], k: Key)
+    ensures { SinkPuts p (rsa_rows s.now k) sink.old sink.new }
 {
     let key = rsa_key(s, k.bits);
     let kind = k.kind;
@@ -52,9 +53,9 @@ pub fn rsa_rules(room: &mut [u8], n: usize, p: Profile, s: &[u8], k: Key) -> usi
     let short = is_short_modulus(s, key.modulus);
     let exponent = is_bad_exponent(s, key.exponent);
     let divided = is_divided(profiles::holds(p, 207) & judged, s, key.modulus);
-    let a = report::judge(room, n, p, 204, rsa & !key.kept, k.bits);
-    let b = report::judge(room, a, p, 205, judged & modulus, key.modulus);
-    let d = report::judge(room, b, p, 206, judged & exponent, key.exponent);
-    let e = report::judge(room, d, p, 207, divided, key.modulus);
-    report::judge(room, e, p, 208, judged & short, key.modulus)
+    sink.judge(p, 204, rsa & !key.kept, k.bits);
+    sink.judge(p, 205, judged & modulus, key.modulus);
+    sink.judge(p, 206, judged & exponent, key.exponent);
+    sink.judge(p, 207, divided, key.modulus);
+    sink.judge(p, 208, judged & short, key.modulus);
 }

@@ -1,13 +1,14 @@
 // Rules 120 to 122: the first CN among the subject's alternative names, sets of one attribute, and CNs of subordinate CAs.
 ghost use Rattle.std.specs.Prelude.{◌≡◌, ◌&&◌};
 ghost use Rattle.certificate.specs.Standing.{standing_by};
-ghost use Rattle.report.specs.Rows.{Puts};
+ghost use Rattle.report.specs.Sinks.{SinkPuts};
 ghost use Rattle.rules_subject.specs.CommonName.{is_unnamed, name_rows};
 
 use certificate::Slot;
 use der::Head;
 use forms::{Kind, Nest};
 use profiles::Profile;
+use report::Sink;
 
 // Whether the CN, if there is one, is none of the dNSNames, where that is judged.
 fn is_unnamed(judged: bool, s: &[u8], cn: Head, alternative: Head) -> bool
@@ -22,25 +23,15 @@ fn is_unnamed(judged: bool, s: &[u8], cn: Head, alternative: Head) -> bool
 }
 
 // The slot is the subject alternative name's.
-pub fn name_and_sets(room: &mut [u8], n: usize, p: Profile, s: &[u8], name: Head, v: Slot) -> usize
-    ensures { Puts p (name_rows s.now name (standing_by v)) n room.old result room.new }
+pub fn name_and_sets(sink: &mut Sink, p: Profile, s: &[u8], name: Head, v: Slot)
+    ensures { SinkPuts p (name_rows s.now name (standing_by v)) sink.old sink.new }
 {
     let from = name.body;
     let to = name.end;
     let cn = forms::first_within(Nest::Set, Kind::Attribute(3), p, s, from, to);
     let judged = profiles::holds(p, 120) & v.good;
     let unnamed = is_unnamed(judged, s, cn, v.element);
-    let a = report::judge(room, n, p, 120, unnamed, cn);
-    let b = forms::judge_each(room, a, p, 121, Kind::Crowded, s, from, to);
-    forms::judge_within(
-        room,
-        b,
-        p,
-        122,
-        Nest::Set,
-        Kind::OtherAuthority,
-        s,
-        from,
-        to,
-    )
+    sink.judge(p, 120, unnamed, cn);
+    forms::judge_each(sink, p, 121, Kind::Crowded, s, from, to);
+    forms::judge_within(sink, p, 122, Nest::Set, Kind::OtherAuthority, s, from, to);
 }

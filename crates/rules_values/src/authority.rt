@@ -1,7 +1,7 @@
 // Rules 421 to 424: what a subordinate CA's basic constraints, key usage, access entries and CRL points say.
 ghost use Rattle.std.specs.Prelude.{◌≡◌};
 ghost use Rattle.certificate.specs.Standing.{standing_by};
-ghost use Rattle.report.specs.Rows.{Puts};
+ghost use Rattle.report.specs.Sinks.{SinkPuts};
 ghost use Rattle.rules_values.specs.Authority.{is_last_authority, authority_rows};
 
 use certificate::Slot;
@@ -9,6 +9,7 @@ use der::Head;
 use forms::{Kind, Nest};
 use locations::Method;
 use profiles::Profile;
+use report::Sink;
 
 // Whether basic constraints are cA TRUE with path length 0.
 fn is_last_authority(s: &[u8], v: Head) -> bool
@@ -19,23 +20,22 @@ fn is_last_authority(s: &[u8], v: Head) -> bool
 
 // The slots of basic constraints, key usage, authority information access and CRL distribution points.
 pub fn authority_rules(
-    room: &mut [u8],
-    n: usize,
+    sink: &mut Sink,
     p: Profile,
     s: &[u8],
     constraints: Slot,
     usage: Slot,
     access: Slot,
     points: Slot,
-) -> usize
-    ensures { Puts p
+)
+    ensures { SinkPuts p
         (authority_rows s.now (standing_by constraints) (standing_by usage) (standing_by access) (standing_by points))
-        n room.old result room.new }
+        sink.old sink.new }
 {
     let last = is_last_authority(s, constraints.element);
     let signs = usages::signs_for_authority(s, usage.element);
-    let a = forms::judge_value(room, n, p, 421, constraints, !last);
-    let b = forms::judge_value(room, a, p, 422, usage, !signs);
-    let d = forms::judge_items(room, b, p, 423, Kind::NotHttpBy(Method::Ocsp), s, access);
-    forms::judge_inner(room, d, p, 424, Nest::Point, Kind::OtherUri, s, points)
+    forms::judge_value(sink, p, 421, constraints, !last);
+    forms::judge_value(sink, p, 422, usage, !signs);
+    forms::judge_items(sink, p, 423, Kind::NotHttpBy(Method::Ocsp), s, access);
+    forms::judge_inner(sink, p, 424, Nest::Point, Kind::OtherUri, s, points);
 }

@@ -2,12 +2,13 @@
 ghost use Rattle.std.specs.Prelude.{◌≡◌};
 ghost use Rattle.certificate.specs.Issuer.{known, key_identifier_of};
 ghost use Rattle.certificate.specs.Standing.{standing_by};
-ghost use Rattle.report.specs.Rows.{Puts};
+ghost use Rattle.report.specs.Sinks.{SinkPuts};
 ghost use Rattle.rules_values.specs.Identifiers.{is_held_by, is_filled, is_twenty, key_identifier_rows};
 
 use certificate::{Issuer, Slot};
 use der::Head;
 use profiles::Profile;
+use report::Sink;
 
 // Whether the authority key id v has a key identifier, and the issuer has the same. `key` is the issuer's OCTET STRING in
 // its octets i, if it has a good one.
@@ -33,8 +34,7 @@ fn is_twenty(v: Head) -> bool
 
 // The slots of the authority key id, of basic constraints and of the subject key id; `i` is read of the issuer's octets.
 pub fn identifier_rules(
-    room: &mut [u8],
-    n: usize,
+    sink: &mut Sink,
     p: Profile,
     s: &[u8],
     authority: Slot,
@@ -42,15 +42,15 @@ pub fn identifier_rules(
     subject: Slot,
     issuer: &[u8],
     i: Issuer,
-) -> usize
-    ensures { Puts p
+)
+    ensures { SinkPuts p
         (key_identifier_rows s.now (known issuer.now i).key (standing_by authority) (standing_by constraints) (standing_by subject))
-        n room.old result room.new }
+        sink.old sink.new }
 {
     let held = is_held_by(s, authority.element, issuer, i.has_key_id, i.key_id);
     let filled = is_filled(constraints.element);
     let twenty = is_twenty(subject.element);
-    let a = forms::judge_value(room, n, p, 401, authority, !held);
-    let b = forms::judge_value(room, a, p, 402, constraints, filled);
-    forms::judge_value(room, b, p, 403, subject, !twenty)
+    forms::judge_value(sink, p, 401, authority, !held);
+    forms::judge_value(sink, p, 402, constraints, filled);
+    forms::judge_value(sink, p, 403, subject, !twenty);
 }

@@ -1,15 +1,16 @@
 // Rules 418 and 419: CRL distribution points.
 ghost use Rattle.certificate.specs.Standing.{standing_by};
-ghost use Rattle.report.specs.Rows.{Puts};
+ghost use Rattle.report.specs.Sinks.{SinkPuts};
 ghost use Rattle.rules_values.specs.Points.{point_rows};
 
 use certificate::Slot;
 use forms::{Kind, Nest};
 use profiles::Profile;
+use report::Sink;
 
 // Slot 9 is CRL distribution points.
-pub fn point_rules(room: &mut [u8], n: usize, p: Profile, s: &[u8], v: Slot) -> usize
-    ensures { Puts p (point_rows s.now (standing_by v)) n room.old result room.new }
+pub fn point_rules(sink: &mut Sink, p: Profile, s: &[u8], v: Slot)
+    ensures { SinkPuts p (point_rows s.now (standing_by v)) sink.old sink.new }
 {
     let lacking = forms::none_within(
         Nest::Point,
@@ -19,6 +20,6 @@ pub fn point_rules(room: &mut [u8], n: usize, p: Profile, s: &[u8], v: Slot) -> 
         v.element.body,
         v.element.end,
     );
-    let a = forms::judge_value(room, n, p, 418, v, lacking);
-    forms::judge_items(room, a, p, 419, Kind::Restricted, s, v)
+    forms::judge_value(sink, p, 418, v, lacking);
+    forms::judge_items(sink, p, 419, Kind::Restricted, s, v);
 }

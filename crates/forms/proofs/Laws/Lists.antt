@@ -32,10 +32,11 @@ use Rattle.der.proofs.Laws.Searching.{Full, first_none, first_here, first_later,
 use Rattle.report.specs.Entries.{noted}
 use Rattle.report.proofs.Laws.Loops.{gathered}
 use Rattle.report.specs.Workings.Forms.{each, one, is_behind}
-use Rattle.report.specs.Putting.{Put}
+use Rattle.report.specs.Sinks.{SinkPut}
+use Rattle.report.specs.declared.sink.Sink.{Sink}
 use Rattle.report.proofs.Terms.Items.{Apart, LieBetween}
 use Rattle.report.proofs.Terms.Items.Apart.{no_items}
-use Rattle.report.proofs.Laws.Putting.{◌⨾◌}
+use Rattle.report.proofs.Laws.Sinks.{sink_join}
 use Rattle.report.proofs.Laws.Forms.{each_none, each_join}
 use Rattle.report.proofs.Laws.First.{one_by_first}
 use Rattle.report.proofs.Laws.Order.{apart_join, between_join, between_wider, children_apart, children_between}
@@ -160,10 +161,10 @@ module _ (s : List ℕ) (end : ℕ) where
 
 -- found is the first X of a name: an entry at the name if there is none, and then at each X behind it
 pub one_joined :
-    {n m r : ℕ} {a b d : List ℕ} (rule : ℕ) (is_x : Head → Bool) (s : List ℕ) (name found : Head)
+    {a b d : Sink} (rule : ℕ) (is_x : Head → Bool) (s : List ℕ) (name found : Head)
     → found ≡ first_of is_x name.end (attributes_in s name)
-    → Put (noted rule (is_empty found) name) n a m b
-    → Put (each rule (is_behind is_x found.end) (attributes_in s name)) m b r d
-    → Put (one rule is_x name (attributes_in s name)) n a r d
+    → SinkPut (noted rule (is_empty found) name) a b
+    → SinkPut (each rule (is_behind is_x found.end) (attributes_in s name)) b d
+    → SinkPut (one rule is_x name (attributes_in s name)) a d
 one_joined rule is_x s name found e p q =
-    rw (one_by_first rule is_x name name.end (sets_apart s name.end name.body), ← e) (p ⨾ q)
+    rw (one_by_first rule is_x name name.end (sets_apart s name.end name.body), ← e) (sink_join p q)

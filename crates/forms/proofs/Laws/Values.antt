@@ -13,16 +13,18 @@ use Rattle.der.specs.declared.header.Head.{Head}
 use Rattle.profiles.specs.declared.fields.Profile.{Profile}
 use Rattle.certificate.specs.declared.slots.Slot.{Slot}
 use Rattle.certificate.specs.Standing.{Standing, extension_by, standing_by}
-use Rattle.report.specs.Rows.{Row, ◌⦂◌, broken_at, Puts}
-use Rattle.report.proofs.Laws.Rows.{puts_empty}
+use Rattle.report.specs.Rows.{Row, ◌⦂◌, broken_at}
+use Rattle.report.specs.Sinks.{SinkPuts}
+use Rattle.report.specs.declared.sink.Sink.{Sink}
+use Rattle.report.proofs.Laws.Sinks.{sink_empty}
 
-pub puts_good : {n m : ℕ} {a b : List ℕ} (p : Profile) (rule : ℕ) (v : Slot) (hs : List Head) → v.good ≡ true → Puts p (rule ⦂ hs ∷ []) n a m b
-    → Puts p (rule ⦂ if_good v hs ∷ []) n a m b
+pub puts_good : {a b : Sink} (p : Profile) (rule : ℕ) (v : Slot) (hs : List Head) → v.good ≡ true → SinkPuts p (rule ⦂ hs ∷ []) a b
+    → SinkPuts p (rule ⦂ if_good v hs ∷ []) a b
 puts_good p rule v hs t x = rw t x
 
-pub puts_none : (p : Profile) (rule : ℕ) (v : Slot) (hs : List Head) (n : ℕ) (room : List ℕ) → v.good ≡ false
-    → Puts p (rule ⦂ if_good v hs ∷ []) n room n room
-puts_none p rule v hs n room t = rw t (puts_empty p rule n room)
+pub puts_none : (p : Profile) (rule : ℕ) (v : Slot) (hs : List Head) (sink : Sink) → v.good ≡ false
+    → SinkPuts p (rule ⦂ if_good v hs ∷ []) sink sink
+puts_none p rule v hs sink t = rw t (sink_empty p rule sink)
 
 pub good_at : (v : Slot) (bad : Bool) (h : Head) → broken_at (v.good && bad) h ≡ if_good v (broken_at bad h)
 unfolding broken_at
@@ -32,13 +34,13 @@ good_at v bad h = go v.good
     go true = refl
     go false = refl
 
-pub by_standing : {n m : ℕ} {a b : List ℕ} (p : Profile) (v : Slot) (rows : Standing → List Row)
-    → (v.good ≡ true → Puts p (rows (Standing.good (extension_by v) v.element)) n a m b) → (v.good ≡ false → Puts p (rows Standing.missing) n a m b)
-    → (v.good ≡ false → Puts p (rows (Standing.bad (extension_by v))) n a m b) → Puts p (rows (standing_by v)) n a m b
-by_standing {n} {m} {a} {b} p v rows good missing bad = go v.good refl (is_empty v.place)
+pub by_standing : {a b : Sink} (p : Profile) (v : Slot) (rows : Standing → List Row)
+    → (v.good ≡ true → SinkPuts p (rows (Standing.good (extension_by v) v.element)) a b) → (v.good ≡ false → SinkPuts p (rows Standing.missing) a b)
+    → (v.good ≡ false → SinkPuts p (rows (Standing.bad (extension_by v))) a b) → SinkPuts p (rows (standing_by v)) a b
+by_standing {a} {b} p v rows good missing bad = go v.good refl (is_empty v.place)
   where
     go : (g : Bool) → v.good ≡ g → (e : Bool)
-        → Puts p (rows (cond g (Standing.good (extension_by v) v.element) (cond e Standing.missing (Standing.bad (extension_by v))))) n a m b
+        → SinkPuts p (rows (cond g (Standing.good (extension_by v) v.element) (cond e Standing.missing (Standing.bad (extension_by v))))) a b
     go true t e = good t
     go false t true = missing t
     go false t false = bad t

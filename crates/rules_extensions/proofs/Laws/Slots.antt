@@ -9,12 +9,13 @@ use native.Mathlib.Omega.{arith}
 use Rattle.certificate.specs.Slots.{numbers_from, slot_count}
 use Rattle.der.specs.declared.header.Head.{Head}
 use Rattle.profiles.specs.declared.fields.Profile.{Profile}
-use Rattle.report.specs.Rows.{Row, findings_of, Puts}
+use Rattle.report.specs.Rows.{Row, findings_of}
+use Rattle.report.specs.Sinks.{SinkPuts}
+use Rattle.report.specs.declared.sink.Sink.{Sink}
 use Rattle.report.proofs.Terms.Rows.{RowOk, RowsOk}
 use Rattle.report.proofs.Terms.Rows.RowsOk.{no_rows, more_rows}
 use Rattle.report.specs.declared.sink.Entry.{Entry}
-use Rattle.report.proofs.Laws.Putting.{Rest}
-use Rattle.report.proofs.Laws.Rows.{rest_row, puts_rest}
+use Rattle.report.proofs.Laws.Sinks.{Left, left_row, left_rows}
 
 -- the rules of the slots from k on
 unfoldable pub rows_from : (ℕ → Row) → ℕ → List Row
@@ -33,15 +34,14 @@ module _ (f : ℕ → Row) (k : ℕ) where
       let e : slot_count - k ≡ 0 = omega arith in
       rw e
 
-  module _ (p : Profile) {n n₀ : ℕ} {room room₀ : List ℕ} where
+  module _ (p : Profile) {old sink : Sink} where
     pub slots_turn :
-        {m : ℕ} {last : List ℕ} {all : List Entry} → k < slot_count → Rest (findings_of p (rows_from f k)) n room all n₀ room₀
-        → Puts p (f k ∷ []) n room m last → Rest (findings_of p (rows_from f (k + 1))) m last all n₀ room₀
-    slots_turn l r x = rest_row p (f k) (rows_from f (k + 1)) (rw (one_more_lem l) at r) x
+        {last : Sink} {all : List Entry} → k < slot_count → Left (findings_of p (rows_from f k)) all old sink
+        → SinkPuts p (f k ∷ []) sink last → Left (findings_of p (rows_from f (k + 1))) all old last
+    slots_turn l r x = left_row p (f k) (rows_from f (k + 1)) (rw (one_more_lem l) at r) x
 
-    pub slots_end :
-        {rs : List Row} → slot_count ≤ k → Rest (findings_of p (rows_from f k)) n room (findings_of p rs) n₀ room₀ → Puts p rs n₀ room₀ n room
-    slots_end l r = puts_rest p (rw (none_left l) at r)
+    pub slots_end : {rs : List Row} → slot_count ≤ k → Left (findings_of p (rows_from f k)) (findings_of p rs) old sink → SinkPuts p rs old sink
+    slots_end l r = left_rows p (rw (none_left l) at r)
 
 module _ {P : Head → Type 0} (f : ℕ → Row) (ok : (k : ℕ) → 0 < k → k < slot_count → RowOk P (f k)) where
   numbers_ok : (k n : ℕ) → 0 < k → k + n ≤ slot_count → RowsOk P (map f (numbers_from k n))

@@ -3,7 +3,7 @@
 --     puts_missing, puts_critical, puts_value     a question's rule for a slot
 -- Assumes nothing.
 use mathlib.Core.Path.{◌≡◌, refl, ap, subst, ◌∙◌}
-use mathlib.Core.List.{List, [], ◌∷◌}
+use mathlib.Core.List.{[], ◌∷◌}
 use mathlib.Core.Bool.{Bool, true, false, cond, not, ◌&&◌}
 use Prim.Native.Nat.{ℕ, ◌+◌, ◌<◌}
 use native.Mathlib.Omega.{arith}
@@ -14,7 +14,9 @@ use Rattle.profiles.proofs.Laws.Slots.{missing_judged, criticality_judged, value
 use Rattle.certificate.specs.Slots.{slot_count}
 use Rattle.certificate.specs.Standing.{Standing, extension_by, standing_by}
 use Rattle.certificate.specs.declared.slots.Slot.{Slot}
-use Rattle.report.specs.Rows.{Row, ◌for◌⦂◌, ◌⦂◌, broken_at, Puts}
+use Rattle.report.specs.Rows.{Row, ◌for◌⦂◌, ◌⦂◌, broken_at}
+use Rattle.report.specs.Sinks.{SinkPuts}
+use Rattle.report.specs.declared.sink.Sink.{Sink}
 use Rattle.rules_extensions.specs.Slots.{is_missing, where_there, is_miscritical_at, rule340, row_at}
 use Rattle.rules_extensions.specs.declared.slots.Question.TheVariants.{Missing, Criticality, Value}
 
@@ -55,20 +57,20 @@ module _ (v : Slot) where
 
   -- ---- rules for slot k
 
-  module _ (p : Profile) (list : Head) (k : ℕ) (l : k < slot_count) (none : Bool) (e : none ≡ is_missing (standing_by v)) {n m : ℕ} {a b : List ℕ} where
-    pub puts_missing : Puts p ((300 + k) ⦂ broken_at none list ∷ []) n a m b → Puts p (row_at Missing p list k (standing_by v) ∷ []) n a m b
+  module _ (p : Profile) (list : Head) (k : ℕ) (l : k < slot_count) (none : Bool) (e : none ≡ is_missing (standing_by v)) {a b : Sink} where
+    pub puts_missing : SinkPuts p ((300 + k) ⦂ broken_at none list ∷ []) a b → SinkPuts p (row_at Missing p list k (standing_by v) ∷ []) a b
     puts_missing =
-        subst (λ (r : Row). Puts p (r ∷ []) n a m b) (λ j. (300 + k) for missing_judged k (omega (arith, l)) j ⦂ broken_at (e j) list)
+        subst (λ (r : Row). SinkPuts p (r ∷ []) a b) (λ j. (300 + k) for missing_judged k (omega (arith, l)) j ⦂ broken_at (e j) list)
 
     pub puts_critical :
-        Puts p ((320 + k) ⦂ broken_at (not none && is_miscritical_at p k v.critical) v.place ∷ []) n a m b
-        → Puts p (row_at Criticality p list k (standing_by v) ∷ []) n a m b
+        SinkPuts p ((320 + k) ⦂ broken_at (not none && is_miscritical_at p k v.critical) v.place ∷ []) a b
+        → SinkPuts p (row_at Criticality p list k (standing_by v) ∷ []) a b
     puts_critical =
         let broken = (λ j. broken_at (not (e j) && is_miscritical_at p k v.critical) v.place) ∙ there_is (is_miscritical_at p k) in
-        subst (λ (r : Row). Puts p (r ∷ []) n a m b) (λ j. (320 + k) for criticality_judged k (omega (arith, l)) j ⦂ broken j)
+        subst (λ (r : Row). SinkPuts p (r ∷ []) a b) (λ j. (320 + k) for criticality_judged k (omega (arith, l)) j ⦂ broken j)
 
     pub puts_value :
-        Puts p ((340 + k) ⦂ broken_at (not none && not v.good) v.holder ∷ []) n a m b → Puts p (row_at Value p list k (standing_by v) ∷ []) n a m b
+        SinkPuts p ((340 + k) ⦂ broken_at (not none && not v.good) v.holder ∷ []) a b → SinkPuts p (row_at Value p list k (standing_by v) ∷ []) a b
     puts_value =
         let broken = (λ j. broken_at (not (e j) && not v.good) v.holder) ∙ bad_is in
-        subst (λ (r : Row). Puts p (r ∷ []) n a m b) (λ j. (340 + k) for value_judged k (omega (arith, l)) j ⦂ broken j)
+        subst (λ (r : Row). SinkPuts p (r ∷ []) a b) (λ j. (340 + k) for value_judged k (omega (arith, l)) j ⦂ broken j)

@@ -17,7 +17,9 @@ use Rattle.primes.specs.Primes.{primes_below, free_of}
 use Rattle.profiles.specs.declared.fields.Profile.{Profile}
 use Rattle.certificate.specs.declared.key.Key.{Key}
 use Rattle.facts.specs.Kinds.{is_rsa}
-use Rattle.report.specs.Rows.{Row, ◌⦂◌, broken_at, Puts}
+use Rattle.report.specs.Rows.{Row, ◌⦂◌, broken_at}
+use Rattle.report.specs.Sinks.{SinkPuts}
+use Rattle.report.specs.declared.sink.Sink.{Sink}
 
 module _ (p : Profile) (s : List ℕ) (k : Key) where
   -- the number that an INTEGER of the key stands for
@@ -34,7 +36,6 @@ module _ (p : Profile) (s : List ℕ) (k : Key) where
       ∷ []
 
   pub rsa_noted :
-      {n r : ℕ} {room last : List ℕ} {key : RsaKey} → key ≡ rsa_key_of s k.bits
-      → Puts p (by_key key) n room r last → Puts p (rsa_rows s k) n room r last
+      {a b : Sink} {key : RsaKey} → key ≡ rsa_key_of s k.bits → SinkPuts p (by_key key) a b → SinkPuts p (rsa_rows s k) a b
   unfolding rsa_rows rsa_key_of judged_in row_of
-  rsa_noted {n} {r} {room} {last} e q = subst (λ (x : RsaKey). Puts p (by_key x) n room r last) e q
+  rsa_noted {a} {b} e q = subst (λ (x : RsaKey). SinkPuts p (by_key x) a b) e q

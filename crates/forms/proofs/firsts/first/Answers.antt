@@ -1,5 +1,4 @@
 use mathlib.Core.Path.{◌∙◌}
-use Prim.Native.Nat.{◌-◌}
 use Rattle.der.proofs.Laws.Searching.{nearer, search_start, search_found, search_next, search_end}
 use Rattle.forms.proofs.firsts.first.Goals as goal
 

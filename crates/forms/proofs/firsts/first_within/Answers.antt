@@ -1,5 +1,4 @@
 use mathlib.Core.Path.{refl, sym, ◌∙◌}
-use Prim.Native.Nat.{◌-◌}
 use Rattle.forms.proofs.Laws.Lists.{within_found, within_passed, within_done}
 use Rattle.der.proofs.Laws.Searching.{nearer}
 use Rattle.forms.proofs.firsts.first_within.Goals as goal

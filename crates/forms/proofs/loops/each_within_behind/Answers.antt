@@ -1,4 +1,3 @@
-use Prim.Native.Nat.{◌-◌}
 use Rattle.forms.specs.Lists.{items_within}
 use Rattle.forms.proofs.Laws.Lists.{nested_joined}
 use Rattle.der.proofs.Laws.Searching.{nearer}
@@ -11,14 +10,11 @@ loop-at-smaller c = nearer _ _ _ _ c.loop-at-test.true c.head_at-h.ensures
 pub loop-at-preserved : goal.loop-at-preserved
 loop-at-preserved c =
     turn_next _ c.loop-at-test.true c.head_at-h.ensures c.loop-at.invariant
-    (rw (← c.holder_in-holder.ensures) c.each_behind-count.ensures)
+    (rw (← c.holder_in-holder.ensures) c.each_behind.ensures)
 
 pub returns : goal.returns
 unfolding items_within
 returns c = rw nested_joined (turn_end c.loop-at-test.false c.loop-at.invariant)
 
 pub loop-at-init : goal.loop-at-init
-loop-at-init c = turn_start _ _ _ _ _ _
-
-pub shape_of-room : goal.shape_of-room
-shape_of-room c = c.loop-at.invariant.kept
+loop-at-init c = turn_start _ _ _ _ _

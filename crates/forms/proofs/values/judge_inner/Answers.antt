@@ -7,5 +7,5 @@ returns-then-v c =
     let a = c.args in
     puts_good a.p a.rule a.v _ c.if-v.true c.judge_within.ensures
 
-pub returns : goal.returns
-returns c = let a = c.args in puts_none a.p a.rule a.v _ _ _ c.if-v.false
+pub returns-else-v : goal.returns-else-v
+returns-else-v c = let a = c.args in puts_none a.p a.rule a.v _ _ c.if-v.false

@@ -6,18 +6,18 @@ use Rattle.lint.proofs.Laws.Answers.{reported_short, reported_written, reported_
 use Rattle.lint.proofs.linting.report_facts.Goals as goal
 
 pub returns-then-not-has_room : goal.returns-then-not-has_room
-returns-then-not-has_room c = reported_short _ _ c.all_rules-count.ensures.put c.has_room.ensures (ap not c.if-not-has_room.true)
+returns-then-not-has_room c = reported_short _ _ c.pass-count.ensures.put c.has_room.ensures (ap not c.if-not-has_room.true)
 
 pub returns-then-count-gt0 : goal.returns-then-count-gt0
 returns-then-count-gt0 c =
     let a = c.args in
     let given = c.slice_known-1.given in
-    reported_written _ a.room.now c.all_rules-count.ensures.put c.has_room.ensures (ap not c.if-not-has_room.false)
-    (search (rules, given)) c.all_rules.ensures.put
+    reported_written _ a.room.now c.pass-count.ensures.put c.has_room.ensures (ap not c.if-not-has_room.false)
+    (search (rules, given)) c.pass.ensures.put
 
 pub returns-else-count-gt0 : goal.returns-else-count-gt0
 returns-else-count-gt0 c =
     let a = c.args in
     let given = c.slice_known-1.given in
-    reported_none _ a.room.now c.all_rules-count.ensures.put c.has_room.ensures (ap not c.if-not-has_room.false)
+    reported_none _ a.room.now c.pass-count.ensures.put c.has_room.ensures (ap not c.if-not-has_room.false)
     (search (rules, given)) c.if-count-gt0.false

@@ -1,28 +1,20 @@
-use mathlib.Core.Path.{refl, ◌∙◌}
-use Prim.Native.Nat.{◌-◌}
 use borrow.Author.Rules.{rules}
 use Rattle.rules_extensions.specs.Slots.{rows_over}
 use Rattle.certificate.specs.Slots.{numbers_from}
-use Rattle.report.proofs.Laws.Putting.{rest_start}
+use Rattle.report.proofs.Laws.Sinks.{left_start}
 use Rattle.rules_extensions.proofs.Laws.Slots.{rows_from, slots_turn, slots_end}
 use Rattle.rules_extensions.proofs.slots.over_slots.Goals as goal
 
 pub loop-slot-init : goal.loop-slot-init
-loop-slot-init c = (search rules, refl, rest_start _ _ _)
+loop-slot-init c = (search rules, left_start _ _)
 
 pub loop-slot-preserved : goal.loop-slot-preserved
 loop-slot-preserved c =
-    let loop = c.loop-slot in (
-      search rules,
-      c.of_slot-count.auto.room ∙ loop.invariant.1,
-      slots_turn _ loop.slot _ c.loop-slot-test.true loop.invariant.2 c.of_slot-count.ensures,
-    )
+    let loop = c.loop-slot in
+    (search rules, slots_turn _ loop.slot _ c.loop-slot-test.true loop.invariant.1 c.of_slot.ensures)
 
 pub returns : goal.returns
 unfolding rows_over rows_from numbers_from
 returns c =
     let loop = c.loop-slot in
-    slots_end _ loop.slot _ c.loop-slot-test.false loop.invariant.2
-
-pub shape_of-room : goal.shape_of-room
-shape_of-room c = c.loop-slot.invariant.1
+    slots_end _ loop.slot _ c.loop-slot-test.false loop.invariant.1

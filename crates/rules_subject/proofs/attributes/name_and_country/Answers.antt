@@ -1,9 +1,9 @@
 -- `rules_subject::attributes::name_and_country` meets its contract. Assumes nothing.
 use Rattle.profiles.specs.Judged.{judged_in, row_of}
 use Rattle.rules_subject.specs.Attributes.{country_rows}
-use Rattle.report.proofs.Laws.Rows.{◌⟫◌}
+use Rattle.report.proofs.Laws.Sinks.{◌⋙◌}
 use Rattle.rules_subject.proofs.attributes.name_and_country.Goals as goal
 
 pub returns : goal.returns
 unfolding country_rows judged_in row_of
-returns c = c.judge_within-a.ensures ⟫ c.judge_one-b.ensures ⟫ c.judge_one-d.ensures ⟫ c.judge_within.ensures
+returns c = c.judge_within.ensures ⋙ c.judge_one.ensures ⋙ c.judge_one-2.ensures ⋙ c.judge_within-2.ensures

@@ -2,7 +2,8 @@
 use Rattle.profiles.specs.Judged.{judged_in, row_of}
 use Rattle.rules_subject.specs.CommonName.{is_unnamed, name_rows}
 use Rattle.forms.proofs.Laws.Values.{good_at, by_standing}
-use Rattle.report.proofs.Laws.Rows.{◌⟫◌, puts_asked}
+use Rattle.report.proofs.Laws.Rows.{puts_asked}
+use Rattle.report.proofs.Laws.Sinks.{◌⋙◌, by_rows}
 use Rattle.rules_subject.proofs.common_name.name_and_sets.Goals as goal
 
 pub returns : goal.returns
@@ -12,6 +13,6 @@ returns c =
     let v = a.v in
     let cn = c.first_within-cn.result in
     let bad = is_unnamed a.s.now cn v.element in
-    let first = puts_asked a.p 120 v.good bad cn (rw (c.is_unnamed-unnamed.ensures, c.holds.ensures) at c.judge-a.ensures) in
-    let put = rw c.first_within-cn.ensures at (rw (good_at v bad cn) at first ⟫ c.judge_each-b.ensures ⟫ c.judge_within.ensures) in
+    let first = by_rows (puts_asked a.p 120 v.good bad cn) (rw (c.is_unnamed-unnamed.ensures, c.holds.ensures) at c.judge.ensures) in
+    let put = rw c.first_within-cn.ensures at (rw (good_at v bad cn) at first ⋙ c.judge_each.ensures ⋙ c.judge_within.ensures) in
     by_standing a.p v (name_rows a.s.now a.name) (λ t. rw t at put) (λ t. rw t at put) (λ t. rw t at put)

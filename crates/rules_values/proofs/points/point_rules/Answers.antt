@@ -2,12 +2,12 @@
 use Rattle.rules_values.specs.Points.{point_rows}
 use Rattle.profiles.specs.Judged.{judged_in, row_of}
 use Rattle.forms.proofs.Laws.Values.{by_standing}
-use Rattle.report.proofs.Laws.Rows.{◌⟫◌}
+use Rattle.report.proofs.Laws.Sinks.{◌⋙◌}
 use Rattle.rules_values.proofs.points.point_rules.Goals as goal
 
 pub returns : goal.returns
 unfolding point_rows judged_in row_of
 returns c =
     let a = c.args in
-    let put = rw c.none_within-lacking.ensures at (c.judge_value-a.ensures ⟫ c.judge_items.ensures) in
+    let put = rw c.none_within-lacking.ensures at (c.judge_value.ensures ⋙ c.judge_items.ensures) in
     by_standing a.p a.v (point_rows a.s.now) (λ t. rw t at put) (λ t. rw t at put) (λ t. rw t at put)

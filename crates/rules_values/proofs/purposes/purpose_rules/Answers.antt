@@ -2,12 +2,12 @@
 use Rattle.rules_values.specs.Purposes.{purpose_rows}
 use Rattle.profiles.specs.Judged.{judged_in, row_of}
 use Rattle.forms.proofs.Laws.Values.{by_standing}
-use Rattle.report.proofs.Laws.Rows.{◌⟫◌}
+use Rattle.report.proofs.Laws.Sinks.{◌⋙◌}
 use Rattle.rules_values.proofs.purposes.purpose_rules.Goals as goal
 
 pub returns : goal.returns
 unfolding purpose_rows judged_in row_of
 returns c =
     let a = c.args in
-    let put = rw c.none_of-lacking.ensures at (c.judge_value-a.ensures ⟫ c.judge_items.ensures) in
+    let put = rw c.none_of-lacking.ensures at (c.judge_value.ensures ⋙ c.judge_items.ensures) in
     by_standing a.p a.v (purpose_rows a.p a.s.now) (λ t. rw t at put) (λ t. rw t at put) (λ t. rw t at put)
