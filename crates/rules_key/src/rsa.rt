@@ -6,8 +6,9 @@ ghost use Rattle.numbers.specs.Numbers.{modulus_ok, long_modulus, exponent_ok};
 ghost use Rattle.primes.specs.Primes.{free_of, primes_below};
 ghost use Rattle.report.specs.Rows.{Puts};
 ghost use Rattle.rules_key.specs.Rsa.{rsa_rows};
+ghost use Rattle.rules_key.specs.Workings.Bits.{number_rows};
 
-use crate::bits::rsa_key;
+use crate::bits::{RsaKey, rsa_key};
 use certificate::Key;
 use der::Head;
 use facts::is_rsa;
@@ -41,20 +42,28 @@ fn is_divided(judged: bool, s: &[u8], h: Head) -> bool
     false
 }
 
-pub fn rsa_rules(room: &mut [u8], n: usize, p: Profile, s: &[u8], k: Key) -> usize
-    ensures { Puts p (rsa_rows s.now k) n room.old result room.new }
+// Rules 205 to 208.
+fn number_rules(room: &mut [u8], n: usize, p: Profile, s: &[u8], key: RsaKey) -> usize
+    ensures { Puts p (number_rows s.now key) n room.old result room.new }
 {
-    let key = rsa_key(s, k.bits);
-    let kind = k.kind;
-    let rsa = is_rsa(kind);
-    let judged = rsa & key.kept;
     let modulus = is_bad_modulus(s, key.modulus);
     let short = is_short_modulus(s, key.modulus);
     let exponent = is_bad_exponent(s, key.exponent);
-    let divided = is_divided(profiles::holds(p, 207) & judged, s, key.modulus);
-    let a = report::judge(room, n, p, 204, rsa & !key.kept, k.bits);
-    let b = report::judge(room, a, p, 205, judged & modulus, key.modulus);
-    let d = report::judge(room, b, p, 206, judged & exponent, key.exponent);
-    let e = report::judge(room, d, p, 207, divided, key.modulus);
-    report::judge(room, e, p, 208, judged & short, key.modulus)
+    let divided = is_divided(profiles::holds(p, 207), s, key.modulus);
+    let a = report::judge(room, n, p, 205, modulus, key.modulus);
+    let b = report::judge(room, a, p, 206, exponent, key.exponent);
+    let d = report::judge(room, b, p, 207, divided, key.modulus);
+    report::judge(room, d, p, 208, short, key.modulus)
+}
+
+pub fn rsa_rules(room: &mut [u8], n: usize, p: Profile, s: &[u8], k: Key) -> usize
+    ensures { Puts p (rsa_rows s.now k) n room.old result room.new }
+{
+    if !is_rsa(k.kind) {
+        return n;
+    }
+    match rsa_key(s, k.bits) {
+        Some(key) => number_rules(room, n, p, s, key),
+        None => report::judge(room, n, p, 204, true, k.bits),
+    }
 }

@@ -1,19 +1,20 @@
 -- `rules_key::rsa::rsa_rules` meets its contract. Assumes nothing.
-use mathlib.Core.Bool.{not, ◌&&◌}
-use Rattle.octets.specs.Numbers.{number_of}
-use Rattle.der.specs.Contents.{contents_of}
-use Rattle.primes.specs.Primes.{primes_below, free_of}
-use Rattle.report.proofs.Laws.Rows.{◌⟫◌, puts_asked}
-use Rattle.rules_key.proofs.Laws.Noted.{rsa_noted}
+use mathlib.Core.Path.{sym, ◌∙◌}
+use Rattle.rules_key.proofs.Laws.Noted.{none_noted, broken_noted, numbers_noted}
 use Rattle.rules_key.proofs.rsa.rsa_rules.Goals as goal
 
-pub returns : goal.returns
-returns c =
+pub returns-then-not-is_rsa : goal.returns-then-not-is_rsa
+returns-then-not-is_rsa c =
     let a = c.args in
-    let key = c.rsa_key-key.result in
-    let free = free_of (primes_below 752) (number_of (contents_of a.s.now key.modulus)) in
-    let by-primes = puts_asked a.p 207 (c.is_rsa-rsa.result && key.kept) (not free) key.modulus
-    (rw (c.is_divided-divided.ensures, c.holds.ensures) at c.judge-e.ensures) in
-    rsa_noted a.p _ _ c.rsa_key-key.ensures
-    (rw (← c.is_rsa-rsa.ensures, ← c.is_bad_modulus-modulus.ensures, ← c.is_short_modulus-short.ensures, ← c.is_bad_exponent-exponent.ensures)
-    (c.judge-a.ensures ⟫ c.judge-b.ensures ⟫ c.judge-d.ensures ⟫ by-primes ⟫ c.judge.ensures))
+    none_noted a.p a.s.now a.k _ _ (sym c.is_rsa.ensures ∙ c.if-not-is_rsa.true)
+
+pub returns-in-Some : goal.returns-in-Some
+returns-in-Some c =
+    let a = c.args in
+    numbers_noted a.p a.s.now a.k _ _ _ _ (sym c.is_rsa.ensures ∙ c.if-not-is_rsa.false) _ (sym c.in-Some.is ∙ c.rsa_key.ensures)
+    c.number_rules.ensures
+
+pub returns-in-None : goal.returns-in-None
+returns-in-None c =
+    let a = c.args in
+    broken_noted a.p a.s.now a.k _ _ _ _ (sym c.is_rsa.ensures ∙ c.if-not-is_rsa.false) (sym c.in-None.is ∙ c.rsa_key.ensures) c.judge.ensures
