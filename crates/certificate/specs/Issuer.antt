@@ -1,5 +1,7 @@
 -- "The issuer counts only by its subject name and its key identifier" (document 01, "The report").
-use Rattle.std.specs.Prelude.{List, Bool, cond, ℕ}
+use Rattle.std.specs.Prelude.{List, ℕ, Option, Some, None}
+use Rattle.std.specs.Bool.{then_some}
+use Rattle.std.specs.Option.{option_map}
 use Rattle.certificate.specs.Fields.{certificate_of}
 use Rattle.certificate.specs.Slots.{first_in_slot, slot_from}
 use Rattle.certificate.specs.Standing.{Standing, standing_in}
@@ -10,21 +12,17 @@ use Rattle.der.specs.Members.{members_in}
 use Rattle.der.specs.Order.{octets_of}
 use Rattle.der.specs.declared.header.Head.{Head}
 
--- the key identifier that a certificate has, if it has one
-pub data KeyIdentifier : Type 0 where
-  none : KeyIdentifier
-  some : List ℕ → KeyIdentifier
-
 -- what counts of an issuer
 pub record Known : Type 0 where
   pub name : List ℕ
-  pub key : KeyIdentifier
+  -- the key identifier, if it has one
+  pub key : Option (List ℕ)
 
 -- "the issuer's subject key id (.. the issuer has none, or a bad one)": the contents of the OCTET STRING. "Of repeated ones the first counts, good or bad."
-abbrev pub key_identifier_in : List ℕ → Standing → KeyIdentifier
-key_identifier_in octets Standing.missing = KeyIdentifier.none
-key_identifier_in octets (Standing.bad x) = KeyIdentifier.none
-key_identifier_in octets (Standing.good x v) = KeyIdentifier.some (contents_of octets v)
+abbrev pub key_identifier_in : List ℕ → Standing → Option (List ℕ)
+key_identifier_in octets Standing.missing = None
+key_identifier_in octets (Standing.bad x) = None
+key_identifier_in octets (Standing.good x v) = Some (contents_of octets v)
 
 -- slot 3 is the subject key id
 unfoldable pub known_of : List ℕ → Known
@@ -44,13 +42,12 @@ unfoldable pub issuer_of : List ℕ → Issuer
 issuer_of i =
     record {
       name = (certificate_of i).subject;
-      key_id = (key_id_in i (certificate_of i).extensions).element;
-      has_key_id = (key_id_in i (certificate_of i).extensions).good;
+      key_id = then_some (key_id_in i (certificate_of i).extensions).good (key_id_in i (certificate_of i).extensions).element;
     }
 
--- the contents of the OCTET STRING h, if there is a good one
-abbrev pub key_identifier_of : List ℕ → Bool → Head → KeyIdentifier
-key_identifier_of octets has h = cond has (KeyIdentifier.some (contents_of octets h)) KeyIdentifier.none
+-- the contents of the OCTET STRING, if there is a good one
+abbrev pub key_identifier_of : List ℕ → Option Head → Option (List ℕ)
+key_identifier_of octets h = option_map (contents_of octets) h
 
 abbrev pub known : List ℕ → Issuer → Known
-known octets i = record { name = octets_of octets i.name; key = key_identifier_of octets i.has_key_id i.key_id }
+known octets i = record { name = octets_of octets i.name; key = key_identifier_of octets i.key_id }

@@ -10,24 +10,18 @@ use der::Head;
 pub struct Issuer {
     // its subject
     pub name: Head,
-    // the OCTET STRING inside its first subject key id extension
-    pub key_id: Head,
-    // it has one, and that is good
-    pub has_key_id: bool,
+    // the OCTET STRING inside its first subject key id extension, if it has one and that is good
+    pub key_id: Option<Head>,
 }
 
 pub fn read_issuer(i: &[u8]) -> Issuer
     ensures { result ≡ issuer_of i.now }
 {
     let certificate = read(i);
-    let name = certificate.subject;
-    let list = certificate.extensions;
-    let place = first_in_slot(i, list, 3);
+    let place = first_in_slot(i, certificate.extensions, 3);
     let slot = slot_from(i, 3, place);
-    let key_id = slot.element;
     Issuer {
-        name: name,
-        key_id: key_id,
-        has_key_id: slot.good,
+        name: certificate.subject,
+        key_id: slot.good.then_some(slot.element),
     }
 }

@@ -71,19 +71,11 @@ pub fn issuer_in(f: Facts) -> Issuer
 pub fn is_rsa(kind: KeyKind) -> bool
     ensures { result ≡ is_rsa kind }
 {
-    match kind {
-        KeyKind::Rsa => true,
-        KeyKind::EllipticCurve => false,
-        KeyKind::Other => false,
-    }
+    matches!(kind, KeyKind::Rsa)
 }
 
 pub fn is_elliptic_curve(kind: KeyKind) -> bool
     ensures { result ≡ is_elliptic_curve kind }
 {
-    match kind {
-        KeyKind::Rsa => false,
-        KeyKind::EllipticCurve => true,
-        KeyKind::Other => false,
-    }
+    matches!(kind, KeyKind::EllipticCurve)
 }

@@ -5,10 +5,9 @@ ghost use Rattle.rules_key.specs.Workings.Bits.{rsa_key_of};
 
 use der::Head;
 
-// Whether rule 204 is kept, and the two INTEGERs that rules 205 to 208 judge then.
+// The two INTEGERs that rules 205 to 208 judge, of bits that keep rule 204.
 #[derive(Clone, Copy)]
 pub struct RsaKey {
-    pub kept: bool,
     pub modulus: Head,
     pub exponent: Head,
 }
@@ -31,7 +30,7 @@ fn is_positive_integer(s: &[u8], h: Head) -> bool
     (h.tag == 2) & numbers::positive(s, h.body, h.end)
 }
 
-pub fn rsa_key(s: &[u8], bits: Head) -> RsaKey
+pub fn rsa_key(s: &[u8], bits: Head) -> Option<RsaKey>
     ensures { result ≡ rsa_key_of s.now bits }
 {
     let from = bits_from(bits);
@@ -43,9 +42,9 @@ pub fn rsa_key(s: &[u8], bits: Head) -> RsaKey
     let exponent = der::head_at(s, modulus.end, end);
     let two = (whole.body < end) & ((modulus.end < end) & (exponent.end == end));
     let positive = is_positive_integer(s, modulus) & is_positive_integer(s, exponent);
-    RsaKey {
-        kept: none_unused & (sound & ((whole.tag == 48) & (two & positive))),
+    let kept = none_unused & (sound & ((whole.tag == 48) & (two & positive)));
+    kept.then_some(RsaKey {
         modulus: modulus,
         exponent: exponent,
-    }
+    })
 }

@@ -6,8 +6,9 @@ ghost use Rattle.numbers.specs.Numbers.{modulus_ok, long_modulus, exponent_ok};
 ghost use Rattle.primes.specs.Primes.{free_of, primes_below};
 ghost use Rattle.report.specs.Sinks.{SinkPuts};
 ghost use Rattle.rules_key.specs.Rsa.{rsa_rows};
+ghost use Rattle.rules_key.specs.Workings.Bits.{number_rows};
 
-use crate::bits::rsa_key;
+use crate::bits::{RsaKey, rsa_key};
 use certificate::Key;
 use der::Head;
 use facts::is_rsa;
@@ -42,20 +43,28 @@ fn is_divided(judged: bool, s: &[u8], h: Head) -> bool
     false
 }
 
-pub fn rsa_rules(sink: &mut Sink, p: Profile, s: &[u8], k: Key)
-    ensures { SinkPuts p (rsa_rows s.now k) sink.old sink.new }
+// Rules 205 to 208.
+fn number_rules(sink: &mut Sink, p: Profile, s: &[u8], key: RsaKey)
+    ensures { SinkPuts p (number_rows s.now key) sink.old sink.new }
 {
-    let key = rsa_key(s, k.bits);
-    let kind = k.kind;
-    let rsa = is_rsa(kind);
-    let judged = rsa & key.kept;
     let modulus = is_bad_modulus(s, key.modulus);
     let short = is_short_modulus(s, key.modulus);
     let exponent = is_bad_exponent(s, key.exponent);
-    let divided = is_divided(profiles::holds(p, 207) & judged, s, key.modulus);
-    sink.judge(p, 204, rsa & !key.kept, k.bits);
-    sink.judge(p, 205, judged & modulus, key.modulus);
-    sink.judge(p, 206, judged & exponent, key.exponent);
+    let divided = is_divided(profiles::holds(p, 207), s, key.modulus);
+    sink.judge(p, 205, modulus, key.modulus);
+    sink.judge(p, 206, exponent, key.exponent);
     sink.judge(p, 207, divided, key.modulus);
-    sink.judge(p, 208, judged & short, key.modulus);
+    sink.judge(p, 208, short, key.modulus);
+}
+
+pub fn rsa_rules(sink: &mut Sink, p: Profile, s: &[u8], k: Key)
+    ensures { SinkPuts p (rsa_rows s.now k) sink.old sink.new }
+{
+    if !is_rsa(k.kind) {
+        return;
+    }
+    match rsa_key(s, k.bits) {
+        Some(key) => number_rules(sink, p, s, key),
+        None => sink.judge(p, 204, true, k.bits),
+    }
 }

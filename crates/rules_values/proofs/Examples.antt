@@ -3,6 +3,7 @@ use mathlib.Core.Path.{◌≡◌, refl}
 use mathlib.Core.List.{List, [], ◌∷◌, map}
 use mathlib.Core.Bool.{Bool, true, false}
 use Prim.Native.Nat.{ℕ}
+use Rattle.std.specs.Prelude.{Option, Some, None}
 use lib.ListN.{length}
 use Rattle.rules_values.specs.Identifiers.{is_held_by, is_filled, is_twenty}
 use Rattle.octets.specs.Octets.{octets_from}
@@ -10,7 +11,6 @@ use Rattle.octets.specs.Numbers.{number_from}
 use Rattle.octets.specs.Same.{same_by}
 use Rattle.der.specs.Header.{head_of}
 use Rattle.der.specs.declared.header.Head.{Head}
-use Rattle.certificate.specs.Issuer.{KeyIdentifier}
 
 -- what is said, and what is right
 pub record Example : Type 0 where
@@ -25,11 +25,11 @@ abbrev whole : List ℕ → Head
 whole s = head_of s 0 (length s)
 
 -- an authority key id, and the issuer's key identifier
-abbrev held : List ℕ → KeyIdentifier → Bool
+abbrev held : List ℕ → Option (List ℕ) → Bool
 held s key = is_held_by s (whole s) key
 
-abbrev key : KeyIdentifier
-key = KeyIdentifier.some (1 ∷ 2 ∷ [])
+abbrev key : Option (List ℕ)
+key = Some (1 ∷ 2 ∷ [])
 
 unfoldable pub identifiers : List Example
 identifiers =
@@ -37,9 +37,9 @@ identifiers =
     is (held (0x30 ∷ 4 ∷ 0x80 ∷ 2 ∷ 1 ∷ 2 ∷ []) key) true
     ∷ is (held (0x30 ∷ 4 ∷ 0x80 ∷ 2 ∷ 1 ∷ 3 ∷ []) key) false
     ∷ is (held (0x30 ∷ 5 ∷ 0x80 ∷ 3 ∷ 1 ∷ 2 ∷ 0 ∷ []) key) false
-    ∷ is (held (0x30 ∷ 4 ∷ 0x80 ∷ 2 ∷ 1 ∷ 2 ∷ []) KeyIdentifier.none) false
+    ∷ is (held (0x30 ∷ 4 ∷ 0x80 ∷ 2 ∷ 1 ∷ 2 ∷ []) None) false
     -- no member; a serial alone
-    ∷ is (held (0x30 ∷ 0 ∷ []) (KeyIdentifier.some [])) false
+    ∷ is (held (0x30 ∷ 0 ∷ []) (Some [])) false
     ∷ is (held (0x30 ∷ 4 ∷ 0x82 ∷ 2 ∷ 1 ∷ 2 ∷ []) key) false
     -- basic constraints empty; with cA
     ∷ is (is_filled (whole (0x30 ∷ 0 ∷ []))) false

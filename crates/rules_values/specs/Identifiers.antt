@@ -1,31 +1,31 @@
 -- Rules 401 to 403 (document 01, "Rules on extensions"; document 02, CR 1). "Place: the OCTET STRING", which is the Extension's value.
-use Rattle.std.specs.Prelude.{Bool, false, cond, not, List, [], ◌∷◌, ℕ, ◌-◌, ltb, eqb}
+use Rattle.std.specs.Prelude.{Bool, false, not, List, [], ◌∷◌, ℕ, ◌-◌, ltb, eqb, Option, Some, None}
+use Rattle.std.specs.Bool.{then_some}
 use Rattle.octets.specs.Same.{same_by, exactly}
 use Rattle.der.specs.Contents.{contents_of}
 use Rattle.der.specs.Members.{first_in}
 use Rattle.der.specs.Tags.{context_tag}
 use Rattle.der.specs.declared.header.Head.{Head}
-use Rattle.certificate.specs.Issuer.{KeyIdentifier}
 use Rattle.certificate.specs.Standing.{Standing}
 use Rattle.forms.specs.Values.{where_good}
 use Rattle.profiles.specs.Judged.{S, every_profile}
 use Rattle.report.specs.Rows.{Row, ◌for◌⦂◌, broken_at}
 
 -- AuthorityKeyIdentifier ::= SEQUENCE { keyIdentifier [0] KeyIdentifier OPTIONAL, .. }: the first member, if its tag is [0]
-abbrev pub authority_key : List ℕ → Head → KeyIdentifier
-authority_key s v = cond (eqb (first_in s v).tag (context_tag 0)) (KeyIdentifier.some (contents_of s (first_in s v))) KeyIdentifier.none
+abbrev pub authority_key : List ℕ → Head → Option (List ℕ)
+authority_key s v = then_some (eqb (first_in s v).tag (context_tag 0)) (contents_of s (first_in s v))
 
 -- both are there, and are the same octets
-abbrev pub same_key : KeyIdentifier → KeyIdentifier → Bool
-same_key KeyIdentifier.none b = false
-same_key (KeyIdentifier.some a) KeyIdentifier.none = false
-same_key (KeyIdentifier.some a) (KeyIdentifier.some b) = same_by exactly a b
+abbrev pub same_key : Option (List ℕ) → Option (List ℕ) → Bool
+same_key None b = false
+same_key (Some a) None = false
+same_key (Some a) (Some b) = same_by exactly a b
 
-unfoldable pub is_held_by : List ℕ → Head → KeyIdentifier → Bool
+unfoldable pub is_held_by : List ℕ → Head → Option (List ℕ) → Bool
 is_held_by s v key = same_key (authority_key s v) key
 
 -- 401 "key identifier present and equal to the issuer's subject key id (broken if the issuer has none, or a bad one)"
-abbrev pub rule401 : List ℕ → KeyIdentifier → Standing → List Head
+abbrev pub rule401 : List ℕ → Option (List ℕ) → Standing → List Head
 rule401 s key e = where_good e (λ x v. broken_at (not (is_held_by s v key)) x.value)
 
 abbrev pub is_filled : Head → Bool
@@ -42,7 +42,7 @@ is_twenty v = eqb (v.end - v.body) 20
 abbrev pub rule403 : Standing → List Head
 rule403 e = where_good e (λ x v. broken_at (not (is_twenty v)) x.value)
 
-unfoldable pub key_identifier_rows : List ℕ → KeyIdentifier → Standing → Standing → Standing → List Row
+unfoldable pub key_identifier_rows : List ℕ → Option (List ℕ) → Standing → Standing → Standing → List Row
 key_identifier_rows s key authority constraints subject =
     401 for every_profile ⦂ rule401 s key authority
     ∷ 402 for S ⦂ rule402 constraints

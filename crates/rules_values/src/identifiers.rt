@@ -12,12 +12,14 @@ use report::Sink;
 
 // Whether the authority key id v has a key identifier, and the issuer has the same. `key` is the issuer's OCTET STRING in
 // its octets i, if it has a good one.
-fn is_held_by(s: &[u8], v: Head, i: &[u8], has: bool, key: Head) -> bool
-    ensures { result ≡ is_held_by s.now v (key_identifier_of i.now has key) }
+fn is_held_by(s: &[u8], v: Head, i: &[u8], key: Option<Head>) -> bool
+    ensures { result ≡ is_held_by s.now v (key_identifier_of i.now key) }
 {
+    let Some(identifier) = key else {
+        return false;
+    };
     let member = der::first_in(s, v);
-    let same = der::same_contents(s, member, i, key);
-    (member.tag == 128) & (has & same)
+    (member.tag == 128) & der::same_contents(s, member, i, identifier)
 }
 
 fn is_filled(v: Head) -> bool
@@ -47,7 +49,7 @@ pub fn identifier_rules(
         (key_identifier_rows s.now (known issuer.now i).key (standing_by authority) (standing_by constraints) (standing_by subject))
         sink.old sink.new }
 {
-    let held = is_held_by(s, authority.element, issuer, i.has_key_id, i.key_id);
+    let held = is_held_by(s, authority.element, issuer, i.key_id);
     let filled = is_filled(constraints.element);
     let twenty = is_twenty(subject.element);
     forms::judge_value(sink, p, 401, authority, !held);

@@ -11,6 +11,7 @@ use mathlib.Core.Bool.{Bool, true, false, cond, false≢true}
 use Prim.Native.Nat.{ℕ, zero, suc, ◌+◌, ◌-◌, ◌<◌}
 use native.Mathlib.Omega.{arith}
 use lib.ListN.{get_or}
+use Rattle.std.specs.Bool.{then_some}
 use lib.Dec.{eqb}
 use borrow.Author.Tests.{lt-leb, ne_eqb, eqb-true, eqb-false}
 use Rattle.certificate.specs.Extensions.{identifier_of, extension_of, identifiers, slot_for, slot_of}
@@ -95,10 +96,10 @@ table_at f (suc k) l m =
 
 -- ---- the issuer's
 
-key_by : (octets : List ℕ) (v : Slot) → key_identifier_of octets v.good v.element ≡ key_identifier_in octets (standing_by v)
+key_by : (octets : List ℕ) (v : Slot) → key_identifier_of octets (then_some v.good v.element) ≡ key_identifier_in octets (standing_by v)
 key_by octets v = go v.good (is_empty v.place)
   where
-    go : (g e : Bool) → key_identifier_of octets g v.element
+    go : (g e : Bool) → key_identifier_of octets (then_some g v.element)
         ≡ key_identifier_in octets (cond g (Standing.good (extension_by v) v.element) (cond e Standing.missing (Standing.bad (extension_by v))))
     go true e = refl
     go false true = refl

@@ -8,6 +8,8 @@ use mathlib.Core.List.{List, [], ◌∷◌}
 use mathlib.Core.Bool.{Bool, true, false, ◌&&◌}
 use Prim.Native.Nat.{ℕ, ◌≤◌, ◌<◌}
 use native.Mathlib.Omega.{arith}
+use Rattle.std.specs.Prelude.{Option}
+use Rattle.std.specs.Bool.{then_some}
 use lib.Dec.{ltb, eqb}
 use borrow.Author.Tests.{ltb-true, ltb-false, eqb-true, eqb-false}
 use Rattle.rules_key.specs.Bits.{bits_from, sequence_in, modulus_of, exponent_of, is_positive_integer, two_positive, rsa_bits}
@@ -50,15 +52,11 @@ pub rsa_is :
     → from ≡ bits_from h → unused ≡ octet_at s h.body → found ≡ stretch_soundness s from h.end → sound ≡ is_sound found
     → whole ≡ head_of s from h.end → m ≡ head_of s whole.body whole.end → e ≡ head_of s m.end whole.end
     → a ≡ is_positive_integer s m → b ≡ is_positive_integer s e
-    → ◌≡◌ {A = RsaKey}
-    (record {
-      kept =
-          eqb unused 0
-          && (sound
-          && (eqb whole.tag 48 && ((ltb whole.body whole.end && (ltb m.end whole.end && eqb e.end whole.end)) && (a && b))));
-      modulus = m;
-      exponent = e;
-    })
+    → ◌≡◌ {A = Option RsaKey}
+    (then_some
+    (eqb unused 0
+    && (sound && (eqb whole.tag 48 && ((ltb whole.body whole.end && (ltb m.end whole.end && eqb e.end whole.end)) && (a && b)))))
+    (record { modulus = m; exponent = e }))
     (rsa_key_of s h)
 unfolding rsa_key_of rsa_bits
 rsa_is s h from unused found sound whole m e a b fr un fo so wh mo ex pa pb =

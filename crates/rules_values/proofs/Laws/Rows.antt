@@ -6,6 +6,7 @@ use mathlib.Core.List.{List}
 use mathlib.Core.Bool.{Bool}
 use Prim.Native.Nat.{ℕ, ◌<◌}
 use native.Mathlib.Omega.{arith}
+use Rattle.std.specs.Prelude.{Option}
 use Rattle.rules_values.specs.Identifiers.{key_identifier_rows}
 use Rattle.rules_values.specs.Usage.{usage_rows}
 use Rattle.rules_values.specs.Purposes.{purpose_rows}
@@ -27,7 +28,7 @@ use Rattle.certificate.specs.Slots.{slot_count}
 use Rattle.certificate.specs.declared.key.KeyKind.{KeyKind}
 use Rattle.certificate.specs.Standing.{Standing}
 use Rattle.certificate.specs.declared.extensions.Extension.{Extension}
-use Rattle.certificate.specs.Issuer.{KeyIdentifier, Known}
+use Rattle.certificate.specs.Issuer.{Known}
 use Rattle.facts.specs.Case.{case_in, standing_of}
 use Rattle.facts.specs.Elements.{Element}
 use Rattle.facts.proofs.Laws.Members.{AllElements, AllMembers, members_of_lem, listed_fit}
@@ -98,7 +99,7 @@ module _ (s : List ℕ) (e : certificate_verdict s ≡ Fits) (known : Known) whe
   -- ---- rules 401 to 424
 
   module _ (p : Profile) where
-    identifiers_ok : (key : KeyIdentifier) → RowsOk (Element s) (key_identifier_rows s key (standing 1) (standing 2) (standing 3))
+    identifiers_ok : (key : Option (List ℕ)) → RowsOk (Element s) (key_identifier_rows s key (standing 1) (standing 2) (standing 3))
     unfolding key_identifier_rows
     identifiers_ok key =
         more_rows (at 1 (omega arith) (omega arith) 401 _) (more_rows (at 2 (omega arith) (omega arith) 402 _) (more_rows (at 3 (omega arith) (omega arith) 403 _) no_rows))

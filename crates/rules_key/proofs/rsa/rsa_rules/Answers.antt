@@ -1,20 +1,24 @@
 -- `rules_key::rsa::rsa_rules` meets its contract. Assumes nothing.
-use mathlib.Core.Bool.{not, ◌&&◌}
-use Rattle.octets.specs.Numbers.{number_of}
-use Rattle.der.specs.Contents.{contents_of}
-use Rattle.primes.specs.Primes.{primes_below, free_of}
-use Rattle.report.proofs.Laws.Rows.{puts_asked}
-use Rattle.report.proofs.Laws.Sinks.{◌⋙◌, by_rows}
-use Rattle.rules_key.proofs.Laws.Noted.{rsa_noted}
+use mathlib.Core.Path.{refl, sym, ◌∙◌}
+use Rattle.report.proofs.Laws.Sinks.{by_rows}
+use Rattle.rules_key.proofs.Laws.Noted.{none_noted, broken_noted, numbers_noted}
 use Rattle.rules_key.proofs.rsa.rsa_rules.Goals as goal
 
-pub returns : goal.returns
-returns c =
+pub returns-then-not-is_rsa : goal.returns-then-not-is_rsa
+returns-then-not-is_rsa c =
     let a = c.args in
-    let key = c.rsa_key-key.result in
-    let free = free_of (primes_below 752) (number_of (contents_of a.s.now key.modulus)) in
-    let by-primes = by_rows (puts_asked a.p 207 (c.is_rsa-rsa.result && key.kept) (not free) key.modulus)
-    (rw (c.is_divided-divided.ensures, c.holds.ensures) at c.judge-4.ensures) in
-    rsa_noted a.p _ _ c.rsa_key-key.ensures
-    (rw (← c.is_rsa-rsa.ensures, ← c.is_bad_modulus-modulus.ensures, ← c.is_short_modulus-short.ensures, ← c.is_bad_exponent-exponent.ensures)
-    (c.judge.ensures ⋙ c.judge-2.ensures ⋙ c.judge-3.ensures ⋙ by-primes ⋙ c.judge-5.ensures))
+    record { puts = none_noted a.p a.s.now a.k _ _ (sym c.is_rsa.ensures ∙ c.if-not-is_rsa.true); same_reference = refl }
+
+pub returns-in-Some : goal.returns-in-Some
+returns-in-Some c =
+    let a = c.args in
+    by_rows
+    (numbers_noted a.p a.s.now a.k _ _ _ _ (sym c.is_rsa.ensures ∙ c.if-not-is_rsa.false) _ (sym c.in-Some.is ∙ c.rsa_key.ensures))
+    c.number_rules.ensures
+
+pub returns-in-None : goal.returns-in-None
+returns-in-None c =
+    let a = c.args in
+    by_rows
+    (broken_noted a.p a.s.now a.k _ _ _ _ (sym c.is_rsa.ensures ∙ c.if-not-is_rsa.false) (sym c.in-None.is ∙ c.rsa_key.ensures))
+    c.judge.ensures
