@@ -1,6 +1,6 @@
 // Contents that are no list of elements, by the number of their test. A type that DER has judged under its own tag is
 // tested under another alone.
-ghost use Rattle.std.specs.Prelude.{◌≡◌, ◌+◌, ◌-◌, ◌/◌, ◌%◌, ◌^◌, ◌||◌, eqb, ltb, is_some};
+ghost use Rattle.std.specs.Prelude.{◌≡◌, ◌+◌, ◌-◌, ◌||◌, eqb, ltb, is_some};
 ghost use Rattle.octets.specs.Octets.{octet_at, octets_from};
 ghost use Rattle.der.specs.Contents.{primitive_ok};
 ghost use Rattle.asn.specs.Grammar.{version_ok, true_ok, natural_ok, positive_ok, named_ok, passes};
@@ -35,13 +35,6 @@ fn positive_ok(s: &[u8], body: usize, n: usize) -> bool
     natural_ok(s, body, n) & !((n == 1) & (first == 0))
 }
 
-// Whether bit k of b, counted from the last, is set.
-fn bit_set(b: u8, k: u8) -> bool
-    ensures { result ≡ eqb (b / 2 ^ k % 2) 1 }
-{
-    if k < 8 { (b >> k) % 2 == 1 } else { false }
-}
-
 // The last of the n octets from place `body` on.
 fn last_octet(s: &[u8], body: usize, n: usize) -> u8
     ensures { result ≡ octet_at s.now (body + (n - 1)) }
@@ -54,7 +47,7 @@ fn named_ok(s: &[u8], body: usize, n: usize) -> bool
 {
     let unused = octets::octet(s, body);
     let last = last_octet(s, body, n);
-    der::primitive_ok(s, 3, body, n) & ((n == 1) | bit_set(last, unused))
+    der::primitive_ok(s, 3, body, n) & ((n == 1) | octets::bit(u64::from(last), unused))
 }
 
 fn time_ok(s: &[u8], tag: u8, body: usize, n: usize) -> bool

@@ -10,11 +10,9 @@ fn low_sum(body: &[u8]) -> u32
 {
     let mut sum: u32 = 0;
     let mut weight: u32 = 1;
-    let mut i: usize = 0;
-    while i < body.len() {
-        sum += (weight % 256) * (body[i] as u32);
+    for b in body {
+        sum += (weight % 256) * u32::from(*b);
         weight += 1;
-        i += 1;
     }
     sum
 }
@@ -25,10 +23,8 @@ fn plain_sum(part: &[u8]) -> u16
     ensures { weigh 1 part.now ≡ weigh 0 part.now + result }
 {
     let mut sum: u16 = 0;
-    let mut i: usize = 0;
-    while i < part.len() {
-        sum += part[i] as u16;
-        i += 1;
+    for b in part {
+        sum += u16::from(*b);
     }
     sum
 }

@@ -68,15 +68,13 @@ fn oid_ok(s: &[u8], body: usize, n: usize) -> bool
         return false;
     }
     let mut fresh = true;
-    let mut k = 0;
-    while k < n {
+    for k in 0..n {
         let b = octets::octet_past(s, body, k);
         let bad = fresh & (b == 128);
         if bad {
             return false;
         }
         fresh = b < 128;
-        k += 1;
     }
     fresh
 }

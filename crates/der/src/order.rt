@@ -12,8 +12,7 @@ use crate::members::missing;
 pub fn octets_le(s: &[u8], a: usize, n: usize, b: usize, m: usize) -> bool
     ensures { result ≡ octets_le (octets_from s.now a n) (octets_from s.now b m) }
 {
-    let mut k = 0;
-    while k < n {
+    for k in 0..n {
         if m <= k {
             return false;
         }
@@ -25,7 +24,6 @@ pub fn octets_le(s: &[u8], a: usize, n: usize, b: usize, m: usize) -> bool
         if y < x {
             return false;
         }
-        k += 1;
     }
     true
 }

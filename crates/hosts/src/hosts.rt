@@ -89,8 +89,7 @@ fn labels_ok(s: &[u8], body: usize, n: usize) -> bool
     let mut size = 0;
     let mut last = b'.';
     let mut dotted = false;
-    let mut k = 0;
-    while k < n {
+    for k in 0..n {
         let b = octets::octet_past(s, body, k);
         if !may_follow(size, last, b) {
             return false;
@@ -98,7 +97,6 @@ fn labels_ok(s: &[u8], body: usize, n: usize) -> bool
         size = size_after(size, b);
         last = b;
         dotted = dotted | (b == b'.');
-        k += 1;
     }
     dotted & may_end(size, last)
 }

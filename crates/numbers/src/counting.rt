@@ -17,10 +17,8 @@ pub fn small(s: &[u8], body: usize, end: usize) -> usize
     ensures { result ≡ min (number s.now body end) (2 ^ 32) }
 {
     let mut n: usize = 0;
-    let mut i = body;
-    while i < end {
+    for i in body..end {
         n = push(n, octets::octet(s, i));
-        i += 1;
     }
     n
 }

@@ -6,12 +6,10 @@ ghost use Rattle.numbers.specs.Workings.Leading.{lead_of};
 pub fn lead(s: &[u8], body: usize, end: usize) -> usize
     ensures { result ≡ lead_of s.now body end }
 {
-    let mut i = body;
-    while i < end {
+    for i in body..end {
         if octets::octet(s, i) != 0 {
             return i;
         }
-        i += 1;
     }
-    i
+    body.max(end)
 }

@@ -9,11 +9,7 @@ fn copy_inside(s: &[u8], from: usize, n: usize, out: &mut [u8], at: usize)
     requires { (from + n ≤ length s.now) × (at + n ≤ length out.old) }
     ensures { out.new ≡ paste out.old at (drop from s.now) n }
 {
-    let mut i = 0;
-    while i < n {
-        out[at + i] = s[from + i];
-        i += 1;
-    }
+    out[at..at + n].copy_from_slice(&s[from..from + n]);
 }
 
 // Copies the n octets of s from place `from` on to place `at` of `out`; nothing if either has fewer.

@@ -54,10 +54,8 @@ pub fn number(s: &[u8], at: usize, skip: u8, n: u8) -> usize
     let from = wide(skip);
     let count = wide(n);
     let mut value = 0;
-    let mut k = 0;
-    while k < count {
+    for k in 0..count {
         value = written_on(value, octet_past(s, at, from + k));
-        k += 1;
     }
     value
 }

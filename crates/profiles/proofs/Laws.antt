@@ -1,6 +1,5 @@
 -- Laws of the definitions, by file.
 pub mod Judged
 pub mod Levels
-pub mod Extensions
 pub mod Slots
 pub mod Limits

@@ -1,6 +1,6 @@
 // Document 01's table of extensions ("Rules on extensions"), and what its words mean for the rules.
 ghost use Rattle.std.specs.Prelude.{◌≡◌};
-ghost use Rattle.profiles.specs.Extensions.{server_column, responder_column, subordinate_column, mark_in, mark_of, is_unwanted, is_out_of_place};
+ghost use Rattle.profiles.specs.Extensions.{mark_in, mark_of, is_unwanted, is_out_of_place};
 ghost use Rattle.profiles.specs.Extensions.{crit_if, criticality_of, is_miscritical};
 
 use crate::fields::Profile;
@@ -23,59 +23,55 @@ pub enum Criticality {
     NotJudged,
 }
 
-fn server_mark(slot: usize) -> Mark
-    ensures { result ≡ mark_in server_column slot }
-{
-    match slot {
-        1 => Mark::Mandatory,
-        2 => Mark::Mandatory,
-        3 => Mark::Mandatory,
-        4 => Mark::Mandatory,
-        5 => Mark::Mandatory,
-        6 => Mark::Mandatory,
-        7 => Mark::Mandatory,
-        8 => Mark::Mandatory,
-        9 => Mark::Optional,
-        10 => Mark::Other,
-        _ => Mark::Unlisted,
-    }
-}
+// Columns S and O, and the one that document 02 adds, from slot 1 on: a column that is too short does not list a slot.
+const SERVER_COLUMN: [Mark; 10] = [
+    Mark::Mandatory,
+    Mark::Mandatory,
+    Mark::Mandatory,
+    Mark::Mandatory,
+    Mark::Mandatory,
+    Mark::Mandatory,
+    Mark::Mandatory,
+    Mark::Mandatory,
+    Mark::Optional,
+    Mark::Other,
+];
 
-fn responder_mark(slot: usize) -> Mark
-    ensures { result ≡ mark_in responder_column slot }
-{
-    match slot {
-        1 => Mark::Mandatory,
-        2 => Mark::Forbidden,
-        3 => Mark::Mandatory,
-        4 => Mark::Mandatory,
-        5 => Mark::Mandatory,
-        6 => Mark::Mandatory,
-        7 => Mark::Optional,
-        8 => Mark::Mandatory,
-        9 => Mark::Optional,
-        10 => Mark::Mandatory,
-        _ => Mark::Unlisted,
-    }
-}
+const RESPONDER_COLUMN: [Mark; 10] = [
+    Mark::Mandatory,
+    Mark::Forbidden,
+    Mark::Mandatory,
+    Mark::Mandatory,
+    Mark::Mandatory,
+    Mark::Mandatory,
+    Mark::Optional,
+    Mark::Mandatory,
+    Mark::Optional,
+    Mark::Mandatory,
+];
 
-fn subordinate_mark(slot: usize) -> Mark
-    ensures { result ≡ mark_in subordinate_column slot }
+const SUBORDINATE_COLUMN: [Mark; 11] = [
+    Mark::Mandatory,
+    Mark::Mandatory,
+    Mark::Mandatory,
+    Mark::Mandatory,
+    Mark::Mandatory,
+    Mark::Mandatory,
+    Mark::Optional,
+    Mark::Mandatory,
+    Mark::Mandatory,
+    Mark::Other,
+    Mark::Mandatory,
+];
+
+// What a column says of a slot.
+fn mark_in(column: &[Mark], slot: usize) -> Mark
+    ensures { result ≡ mark_in column.now slot }
 {
-    match slot {
-        1 => Mark::Mandatory,
-        2 => Mark::Mandatory,
-        3 => Mark::Mandatory,
-        4 => Mark::Mandatory,
-        5 => Mark::Mandatory,
-        6 => Mark::Mandatory,
-        7 => Mark::Optional,
-        8 => Mark::Mandatory,
-        9 => Mark::Mandatory,
-        10 => Mark::Other,
-        11 => Mark::Mandatory,
-        _ => Mark::Unlisted,
+    if slot == 0 {
+        return Mark::Unlisted;
     }
+    column.get(slot - 1).copied().unwrap_or(Mark::Unlisted)
 }
 
 // What a profile's column says of the extension in this slot.
@@ -83,10 +79,9 @@ pub fn mark_of(p: Profile, slot: usize) -> Mark
     ensures { result ≡ mark_of p slot }
 {
     match p {
-        Profile::Domain => server_mark(slot),
-        Profile::Organization => server_mark(slot),
-        Profile::Responder => responder_mark(slot),
-        Profile::Subordinate => subordinate_mark(slot),
+        Profile::Domain | Profile::Organization => mark_in(&SERVER_COLUMN, slot),
+        Profile::Responder => mark_in(&RESPONDER_COLUMN, slot),
+        Profile::Subordinate => mark_in(&SUBORDINATE_COLUMN, slot),
     }
 }
 

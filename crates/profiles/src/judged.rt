@@ -2,7 +2,7 @@
 // that is k above the hundred is judged.
 ghost use Rattle.std.specs.Prelude.{◌≡◌};
 ghost use Rattle.profiles.specs.Judged.{judges};
-ghost use Rattle.profiles.specs.Workings.Bits.{of_hundred, judged_bits, bit_in};
+ghost use Rattle.profiles.specs.Workings.Bits.{of_hundred, judged_bits};
 
 use crate::fields::Profile;
 
@@ -30,17 +30,8 @@ fn judged_bits(p: Profile, hundred: usize) -> u64
     }
 }
 
-fn bit_in(bits: u64, k: u64) -> bool
-    ensures { result ≡ bit_in bits k }
-{
-    if k < 64 {
-        return (bits >> k) % 2 == 1;
-    }
-    false
-}
-
 pub fn holds(p: Profile, rule: usize) -> bool
     ensures { result ≡ judges p rule }
 {
-    bit_in(judged_bits(p, rule / 100), (rule % 100) as u64)
+    octets::bit(judged_bits(p, rule / 100), (rule % 100) as u8)
 }

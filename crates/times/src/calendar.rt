@@ -38,10 +38,8 @@ fn before_month(leap: bool, month: u8) -> usize
     ensures { (result ≡ before_month leap month) × (result < 2 ^ 13) }
 {
     let mut days = 0;
-    let mut m = 0;
-    while m < month {
+    for m in 0..month {
         days += octets::wide(month_length(leap, m));
-        m += 1;
     }
     days
 }

@@ -1,6 +1,6 @@
 // The bits of key usage. The first contents octet says how many bits are unused, and bit 0 is the high bit of the octet
 // after it.
-ghost use Rattle.std.specs.Prelude.{◌≡◌, cond, not, [], ◌∷◌, ◌+◌, ◌-◌};
+ghost use Rattle.std.specs.Prelude.{◌≡◌, cond, not, [], ◌∷◌, ◌+◌, ◌-◌, ◌<◌};
 ghost use Rattle.octets.specs.Octets.{octets_from};
 ghost use Rattle.profiles.specs.Values.{digital_signature, non_repudiation};
 ghost use Rattle.usages.specs.Usage.{bit_octets, bit_at, any_below, usage_of, signs_for_authority, other_bit, other_bits, signs_alone, bits_in};
@@ -8,24 +8,38 @@ ghost use Rattle.usages.specs.Workings.Usage.{any_set, odd_alone};
 
 use der::Head;
 
-// Rule 404: whether digitalSignature is set.
-pub fn signs(s: &[u8], v: Head) -> bool
-    ensures { result ≡ bit_at (usage_of s.now v) digital_signature }
+// The numbers of bits (RFC 5280, 4.2.1.3).
+const DIGITAL_SIGNATURE: u8 = 0;
+
+const NON_REPUDIATION: u8 = 1;
+
+const KEY_CERT_SIGN: u8 = 5;
+
+const CRL_SIGN: u8 = 6;
+
+// Whether the bit of this number is set.
+fn has_bit(s: &[u8], v: Head, number: u8) -> bool
+    requires { number < 8 }
+    ensures { result ≡ bit_at (usage_of s.now v) number }
 {
     let body = v.body;
     let n = octets::minus(v.end, body);
     let bits = octets::octet_past(s, body, 1);
-    (1 < n) & (bits / 128 % 2 == 1)
+    (1 < n) & octets::bit(u64::from(bits), 7 - number)
+}
+
+// Rule 404: whether digitalSignature is set.
+pub fn signs(s: &[u8], v: Head) -> bool
+    ensures { result ≡ bit_at (usage_of s.now v) digital_signature }
+{
+    has_bit(s, v, DIGITAL_SIGNATURE)
 }
 
 // Rule 422: whether keyCertSign and cRLSign are set.
 pub fn signs_for_authority(s: &[u8], v: Head) -> bool
     ensures { result ≡ signs_for_authority (usage_of s.now v) }
 {
-    let body = v.body;
-    let n = octets::minus(v.end, body);
-    let bits = octets::octet_past(s, body, 1);
-    ((1 < n) & (bits / 4 % 2 == 1)) & ((1 < n) & (bits / 2 % 2 == 1))
+    has_bit(s, v, KEY_CERT_SIGN) & has_bit(s, v, CRL_SIGN)
 }
 
 // Whether the last bit of a is set, and that of b is not.
@@ -80,10 +94,7 @@ pub fn other_usage(s: &[u8], v: Head, allowed: u8) -> bool
 fn lasts(s: &[u8], v: Head) -> bool
     ensures { result ≡ bit_at (usage_of s.now v) non_repudiation }
 {
-    let body = v.body;
-    let n = octets::minus(v.end, body);
-    let bits = octets::octet_past(s, body, 1);
-    (1 < n) & (bits / 64 % 2 == 1)
+    has_bit(s, v, NON_REPUDIATION)
 }
 
 // Whether a bit is as asked.

@@ -3,16 +3,13 @@
 --     natural_law     an INTEGER from 0
 --     positive_law    an INTEGER from 1
 --     named_law       a named bit list
---     no_bit          an octet has no bit past its eighth
 --     test_other      a test that asks nothing
 -- Assumes nothing.
 use mathlib.Core.Path.{◌≡◌, refl, sym, ap, ◌∙◌}
 use mathlib.Core.List.{List}
-use mathlib.Core.Bool.{Bool, false, not, ◌&&◌, ◌||◌, and-true}
-use Prim.Native.Nat.{ℕ, zero, suc, ◌+◌, ◌-◌, ◌/◌, ◌%◌, ◌^◌, ◌≤◌, ◌<◌}
-use native.Mathlib.Nat.{div-eq_of_lt, lt_of_lt_of_le}
+use mathlib.Core.Bool.{Bool, not, ◌&&◌, ◌||◌, and-true}
+use Prim.Native.Nat.{ℕ, zero, suc, ◌+◌, ◌-◌, ◌/◌, ◌%◌, ◌^◌}
 use native.Mathlib.Omega.{arith}
-use lib.Pow.{pow_mono}
 use lib.Dec.{eqb, ltb}
 use borrow.Author.Tests.{ne_eqb}
 use Rattle.asn.specs.Grammar.{Test, one_octet, natural_ok, positive_ok, named_ok}
@@ -47,9 +44,6 @@ named_law s body (suc (suc n)) unused last good bit u l b g =
     let i : body + (suc (suc n) - 1) ≡ body + 1 + n = omega arith in
     let k : last ≡ last_of (octet_at s (body + 1)) (octets_from s (body + 1 + 1) n) = l ∙ ap (octet_at s) i ∙ sym (last_law s (body + 1) n) in
     rw (ne_eqb (suc (suc n)) 1 (λ h. omega arith), g, b, k, u)
-
-pub no_bit : (b k : ℕ) → b < 256 → 8 ≤ k → false ≡ eqb (b / 2 ^ k % 2) 1
-no_bit b k h l = rw (div-eq_of_lt (lt_of_lt_of_le h (pow_mono l)))
 
 pub test_other : (t : ℕ) → (t ≡ 2 → ⊥) → (t ≡ 3 → ⊥) → (t ≡ 4 → ⊥) → (t ≡ 5 → ⊥) → (t ≡ 6 → ⊥) → (t ≡ 7 → ⊥) → (t ≡ 8 → ⊥)
     → (t ≡ 9 → ⊥) → (t ≡ 10 → ⊥) → (t ≡ 11 → ⊥) → (t ≡ 12 → ⊥) → test_at t ≡ Test.free

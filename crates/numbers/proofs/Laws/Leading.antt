@@ -1,14 +1,14 @@
 -- The first octet that is not 0.
---     lead_done, lead_step, lead_stop     the loop that looks for it
---     leads                               the number from it on is the whole number, and it is not 0
+--     lead_done, lead_step, lead_stop, lead_none     the loop that looks for it
+--     leads                                          the number from it on is the whole number, and it is not 0
 -- Assumes nothing.
 use mathlib.Core.Path.{◌≡◌, refl, sym, ap, ◌∙◌}
 use mathlib.Core.List.{List}
 use mathlib.Core.Bool.{Bool, true, false}
-use Prim.Native.Nat.{ℕ, zero, suc, ◌+◌, ◌-◌, ◌*◌, ◌≤◌, ◌<◌}
+use Prim.Native.Nat.{ℕ, zero, suc, ◌+◌, ◌-◌, ◌*◌, ◌≤◌, ◌<◌, max}
 use native.Mathlib.Omega.{arith}
-use lib.Dec.{eqb}
-use borrow.Author.Tests.{eq-eqb, ne_eqb, eqb-true, eqb-false}
+use lib.Dec.{eqb, leb}
+use borrow.Author.Tests.{eq-eqb, ne_eqb, eqb-true, eqb-false, leb-true, leb-false}
 use Rattle.numbers.specs.Numbers.{number}
 use Rattle.numbers.specs.Workings.Leading.{lead_by, lead_of}
 use Rattle.octets.specs.Octets.{octet_at, octets_from}
@@ -56,3 +56,17 @@ leads_by s (suc n) i end e = go (leads_by s n (i + 1) end (omega arith)) (eqb (o
 
 pub leads : (s : List ℕ) (body end p : ℕ) → p ≡ lead_of s body end → Leads s body end p
 leads s body end p e = rw e (leads_by s (end - body) body end refl)
+
+-- i is where a loop from body to end stops
+pub lead_none : (s : List ℕ) (body end i : ℕ) → end ≤ i → (body ≤ end → i ≤ end) → lead_of s body end ≡ lead_of s i end → max body end ≡ lead_of s body end
+lead_none s body end i h k e = go (leb body end) refl
+  where
+    go : (t : Bool) → leb body end ≡ t → max body end ≡ lead_of s body end
+    go true t =
+        let l = leb-true body end t in
+        let m : max body end ≡ i = omega (arith, k l) in
+        m ∙ sym (e ∙ lead_done s i end h)
+    go false t =
+        let l = leb-false body end t in
+        let m : max body end ≡ body = omega arith in
+        m ∙ sym (lead_done s body end (omega arith))

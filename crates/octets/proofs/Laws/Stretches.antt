@@ -68,12 +68,12 @@ far_same s a b zero h k = refl
 far_same s a b (suc n) h k =
     ap₂ (λ x xs. x ∷ xs) (sym (past s a h) ∙ past s b k) (far_same s (a + 1) (b + 1) n (omega arith) (omega arith))
 
-pub stretch_far : (s : List ℕ) (at n : ℕ) → length s ≤ largest → octets_from s (min at largest) n ≡ octets_from s at n
-stretch_far s at n h = go (leb at largest) refl
+pub stretch_far : (s : List ℕ) (at from n : ℕ) → length s ≤ largest → from ≡ min at largest → octets_from s from n ≡ octets_from s at n
+stretch_far s at from n h q = go (leb at largest) refl
   where
-    go : (t : Bool) → leb at largest ≡ t → octets_from s (min at largest) n ≡ octets_from s at n
-    go true e = ap (λ a. octets_from s a n) (min-eq_left (leb-true at largest e))
-    go false e = let f = leb-false at largest e in far_same s (min at largest) at n (omega arith) (omega arith)
+    go : (t : Bool) → leb at largest ≡ t → octets_from s from n ≡ octets_from s at n
+    go true e = ap (λ a. octets_from s a n) (q ∙ min-eq_left (leb-true at largest e))
+    go false e = let f = leb-false at largest e in far_same s from at n (omega arith) (omega arith)
 
 pub digits_all : (bs : List ℕ) → list_all is_digit bs ≡ are_digits bs
 unfolding are_digits

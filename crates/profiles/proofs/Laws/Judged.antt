@@ -7,17 +7,21 @@ use mathlib.Core.Bool.{Bool, true, false, ◌&&◌}
 use Prim.Native.Nat.{ℕ, ◌/◌, ◌%◌, ◌^◌, ◌≤◌}
 use native.Mathlib.Nat.{zero-div}
 use native.Mathlib.Omega.{arith}
-use lib.Dec.{ltb}
+use lib.Dec.{ltb, eqb}
 use borrow.Author.Tests.{ne_eqb, ltb-true, ltb-false}
 use Rattle.octets.specs.Octets.{is_one_of}
 use Rattle.octets.proofs.Laws.Finite.{all_below, all_below_lem, same, same_true}
 use Rattle.octets.proofs.Laws.Tests.{and_l, and_r}
 use Rattle.profiles.specs.Judged.{rule_table, rule_limit, row_of, judged_in, judged_by, judges}
-use Rattle.profiles.specs.Workings.Bits.{of_hundred, judged_bits, bit_in}
+use Rattle.profiles.specs.Workings.Bits.{of_hundred, judged_bits}
 use Rattle.profiles.specs.declared.fields.Profile.{Profile}
 use Rattle.profiles.specs.declared.fields.Profile.TheVariants.{Domain, Organization, Responder, Subordinate}
 use Rattle.profiles.specs.declared.levels.Level.{Level}
 use Rattle.profiles.specs.declared.levels.Level.TheVariants.{Must}
+
+-- bit k is set
+abbrev bit_in : ℕ → ℕ → Bool
+bit_in bits k = eqb (bits / 2 ^ k % 2) 1
 
 -- as the code asks
 held_by : Profile → ℕ → Bool
@@ -74,13 +78,9 @@ no_bits Responder hundred l = no_hundred hundred _ _ _ _ l
 no_bits Subordinate hundred l = no_hundred hundred _ _ _ _ l
 
 no_bit : (k : ℕ) → bit_in 0 k ≡ false
-no_bit k = rw (zero-div (2 ^ k)) (go (ltb k 64))
-  where
-    go : (b : Bool) → (b && false) ≡ false
-    go true = refl
-    go false = refl
+no_bit k = rw (zero-div (2 ^ k))
 
-pub bits_right : (p : Profile) (rule : ℕ) → bit_in (judged_bits p (rule / 100)) (rule % 100) ≡ judges p rule
+pub bits_right : (p : Profile) (rule : ℕ) → eqb (judged_bits p (rule / 100) / 2 ^ (rule % 100) % 2) 1 ≡ judges p rule
 unfolding agrees held_by
 bits_right p rule = go (ltb rule 500) refl
   where

@@ -1,6 +1,6 @@
 -- The rules that a profile judges, as the bits of numbers: one for each hundred of rules, whose bit k stands for the rule that is k above it.
 -- How the code goes about it: named by contracts of functions that no other crate can call, and by nothing else of `specs/`.
-use Rattle.std.specs.Prelude.{Bool, cond, ◌&&◌, ℕ, ◌/◌, ◌%◌, ◌^◌, ltb, eqb}
+use Rattle.std.specs.Prelude.{cond, ℕ, eqb}
 use Rattle.profiles.specs.declared.fields.Profile.{Profile}
 use Rattle.profiles.specs.declared.fields.Profile.TheVariants.{Domain, Organization, Responder, Subordinate}
 
@@ -17,7 +17,3 @@ judged_bits Domain hundred = of_hundred hundred 0x10FFEE 0x7E 0xA003FE003FE001FE
 judged_bits Organization hundred = of_hundred hundred 0x1FFFEE 0x7E 0xA003FE003FE001FE 0xFFFBE
 judged_bits Responder hundred = of_hundred hundred 0x23FFFE 0xF6 0x6007FA007FA0057A 0xD5BBA
 judged_bits Subordinate hundred = of_hundred hundred 0x43FFEE 0x112 0x200BFE00BFE00B7E 0x1EFA68A
-
--- bit k is set, of 64
-abbrev pub bit_in : ℕ → ℕ → Bool
-bit_in bits k = ltb k 64 && eqb (bits / 2 ^ k % 2) 1

@@ -1,5 +1,5 @@
 -- `blocks::fields::is_filled` meets its contract. Assumes nothing.
-use Rattle.std.proofs.Common.{eqb, ◌+◌, ◌-◌, ◌∙◌, arith, rules, tests}
+use Rattle.std.proofs.Common.{eqb, ◌+◌, ◌∙◌, arith, rules, tests}
 use Rattle.octets.proofs.Laws.Stretches.{stretch_far}
 use Rattle.blocks.proofs.Laws.Fill.{fill_all}
 use Rattle.blocks.proofs.fields.is_filled.Goals as goal
@@ -8,4 +8,4 @@ pub returns : goal.returns
 returns c =
     let a = c.args in
     let zeros = c.all.ensures (λ b. eqb b 0) (λ b answer h g. search (rules, tests)) in
-    rw (c.saturating_add.ensures, c.minus.ensures, stretch_far a.block.now (a.used + 8) (502 - a.used) (omega arith)) at zeros ∙ fill_all a.block.now a.used
+    rw (stretch_far a.block.now (a.used + 8) c.saturating_add.result c.minus.result (omega arith) c.saturating_add.ensures, c.minus.ensures) at zeros ∙ fill_all a.block.now a.used

@@ -7,6 +7,3 @@ use Rattle.der.proofs.contents.oid_ok.Given as goal
 
 abbrev pub invariant-loop-k : goal.invariant-loop-k
 invariant-loop-k l = oid_ok (octets_from l.s l.body l.n) ≡ arcs_ok l.fresh (octets_from l.s (l.body + l.k) (l.n - l.k))
-
-abbrev pub decreases-loop-k : goal.decreases-loop-k
-decreases-loop-k l = l.n - l.k

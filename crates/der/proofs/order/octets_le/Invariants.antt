@@ -7,6 +7,3 @@ use Rattle.der.proofs.order.octets_le.Given as goal
 
 abbrev pub invariant-loop-k : goal.invariant-loop-k
 invariant-loop-k l = octets_le (octets_from l.s l.a l.n) (octets_from l.s l.b l.m) ≡ octets_le (octets_from l.s (l.a + l.k) (l.n - l.k)) (octets_from l.s (l.b + l.k) (l.m - l.k))
-
-abbrev pub decreases-loop-k : goal.decreases-loop-k
-decreases-loop-k l = l.n - l.k

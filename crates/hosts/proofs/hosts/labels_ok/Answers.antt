@@ -17,7 +17,7 @@ pub returns-then-not-may_follow : goal.returns-then-not-may_follow
 returns-then-not-may_follow c =
     let a = c.args in
     sym (c.loop-k.invariant.1 ∙ scan_bad a.s.now c.loop-k.size c.loop-k.last c.loop-k.dotted a.body a.n c.loop-k.k
-    c.octet_past-b.result c.may_follow.result c.loop-k-test.true c.octet_past-b.ensures
+    c.octet_past-b.result c.may_follow.result (omega arith) c.octet_past-b.ensures
     c.may_follow.ensures (c.if-not-may_follow.true))
 
 pub size_after-size-requires : goal.size_after-size-requires
@@ -30,7 +30,7 @@ loop-k-preserved c =
       size_grows c.loop-k.size b c.loop-k.k c.size_after-size.result c.size_after-size.ensures c.loop-k.invariant.0,
       c.loop-k.invariant.1 ∙
           (scan_next a.s.now c.loop-k.size c.loop-k.last c.loop-k.dotted a.body a.n c.loop-k.k b c.may_follow.result
-          c.loop-k-test.true c.octet_past-b.ensures c.may_follow.ensures (c.if-not-may_follow.false) ∙ ap
+          (omega arith) c.octet_past-b.ensures c.may_follow.ensures (c.if-not-may_follow.false) ∙ ap
           (λ (z : ℕ). scanned z b (c.loop-k.dotted || eqb b 46) (octets_from a.s.now (a.body + (c.loop-k.k + 1)) (a.n - (c.loop-k.k + 1))))
           (sym c.size_after-size.ensures)),
     )
@@ -40,4 +40,4 @@ returns c =
     let a = c.args in
     ap (λ (b : Bool). c.loop-k.dotted && b) c.may_end.ensures ∙ sym
     (c.loop-k.invariant.1 ∙ scan_done a.s.now c.loop-k.size c.loop-k.last c.loop-k.dotted a.body a.n c.loop-k.k
-    c.loop-k-test.false)
+    (omega arith))

@@ -13,6 +13,3 @@ use Rattle.hosts.proofs.hosts.labels_ok.Given as goal
 abbrev pub invariant-loop-k : goal.invariant-loop-k
 invariant-loop-k l = (l.size ≤ l.k) × ((leb 2 (length (labels_of (octets_from l.s l.body l.n))) && labels_ok (labels_of (octets_from l.s l.body l.n))) ≡ scanned l.size l.last l.dotted
     (octets_from l.s (l.body + l.k) (l.n - l.k)))
-
-abbrev pub decreases-loop-k : goal.decreases-loop-k
-decreases-loop-k l = l.n - l.k

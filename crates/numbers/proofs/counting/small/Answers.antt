@@ -10,11 +10,11 @@ pub loop-i-preserved : goal.loop-i-preserved
 loop-i-preserved c =
     let a = c.args in (
       c.loop-i.invariant.0 ∙ small_step a.s.now c.loop-i.n c.loop-i.i a.end c.octet.result c.push-n.result
-          c.loop-i-test.true c.octet.ensures c.push-n.ensures.0,
+          (omega arith) c.octet.ensures c.push-n.ensures.0,
       c.push-n.ensures.1,
     )
 
 pub returns : goal.returns
 returns c =
     let a = c.args in
-    sym (c.loop-i.invariant.0 ∙ small_end a.s.now c.loop-i.n c.loop-i.i a.end c.loop-i-test.false c.loop-i.invariant.1)
+    sym (c.loop-i.invariant.0 ∙ small_end a.s.now c.loop-i.n c.loop-i.i a.end (omega arith) c.loop-i.invariant.1)

@@ -8,6 +8,3 @@ use Rattle.numbers.proofs.counting.small.Given as goal
 
 abbrev pub invariant-loop-i : goal.invariant-loop-i
 invariant-loop-i l = (min (number l.s l.body l.end) (2 ^ 32) ≡ min (number_from l.n (octets_from l.s l.i (l.end - l.i))) (2 ^ 32)) × (l.n ≤ 2 ^ 32)
-
-abbrev pub decreases-loop-i : goal.decreases-loop-i
-decreases-loop-i l = l.end - l.i

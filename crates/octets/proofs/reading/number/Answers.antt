@@ -12,9 +12,6 @@ loop-k-init c = (omega arith, simp (add-zero, sub-zero))
 pub overflow_add-from : goal.overflow_add-from
 overflow_add-from c = omega (arith, c.wide-count.ensures.1, c.wide-from.ensures.1)
 
-pub loop-k-smaller : goal.loop-k-smaller
-loop-k-smaller c = omega (arith, c.wide-count.ensures.0)
-
 pub loop-k-preserved : goal.loop-k-preserved
 loop-k-preserved c = let x = c.args in
     let e = c.written_on-value.ensures in

@@ -9,6 +9,3 @@ use Rattle.octets.proofs.reading.number.Given as goal
 abbrev pub invariant-loop-k : goal.invariant-loop-k
 invariant-loop-k l = (l.value ≤ largest) × (min (number_of (octets_from l.s (l.at + l.skip) l.n)) largest ≡ min
     (number_from l.value (octets_from l.s (l.at + l.skip + l.k) (l.n - l.k))) largest)
-
-abbrev pub decreases-loop-k : goal.decreases-loop-k
-decreases-loop-k l = l.n - l.k

@@ -11,5 +11,5 @@ returns c =
     let a = c.args in
     let some = c.any.ensures (λ b. any_below (bit_at (b ∷ [])) 8)
     (λ b answer h g. let e : answer ≡ not (eqb b 0) = search (rules, tests) in e ∙ octet_bits b h) in
-    rw (c.saturating_add.ensures, c.minus.ensures, stretch_far a.s.now (a.body + 2) (a.n - 2) (omega arith)) at some
+    rw (stretch_far a.s.now (a.body + 2) c.saturating_add.result c.minus.result (omega arith) c.saturating_add.ensures, c.minus.ensures) at some
     ∙ set_any (octets_from a.s.now (a.body + 2) (a.n - 2))
