@@ -4,7 +4,7 @@
 --     put_whole            where the buffer is large enough the text stands at its place, and all else is as it was
 --     put_inside           the place behind a text is in the buffer, if the place before it is
 --     grown_nothing, _then_, grown_next     the same of texts that grow: no octets, one behind the other, and octet by octet
---     one_answer           any two answers and buffers that the contract of such a function allows coincide
+--     one_answer, one_text     any two answers and buffers that the contract of such a function allows coincide
 -- Assumes nothing.
 use mathlib.Core.Path.{◌≡◌, refl, sym, ap, ◌∙◌}
 use mathlib.Core.List.{List, [], ◌∷◌, ◌++◌}
@@ -100,3 +100,6 @@ module _ {us vs : List ℕ} {t u v : Text} where
 pub grown_next : (text : List ℕ) (i : ℕ) {t u v : Text} → i < length text → Grown (take i text) t u → Grown (get_or text i 0 ∷ []) u v
     → Grown (take (i + 1) text) t v
 grown_next text i h p q = rw (add-one i, take-suc text i 0 h) (p then q)
+
+pub one_text : {bs : List ℕ} {t u v : Text} → Grown bs t u → Grown bs t v → (u.len ≡ v.len) × (u.space.now ≡ v.space.now)
+one_text p q = one_answer p.spelled q.spelled
