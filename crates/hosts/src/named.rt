@@ -15,15 +15,13 @@ pub fn is_dns_name(h: Head) -> bool
 }
 
 // Whether the n octets from a on are, ASCII case ignored, the contents of at least one dNSName among the names
-// from `at` to `end`. The names are left at the first match, and a name at its first mismatch.
+// from `at` to `end`. The names are left at the first match, and a name at its first mismatch. (Labels, and not a chain:
+// document 01's "Forms" wants them left so.)
 pub fn some_same(s: &[u8], a: usize, n: usize, at: usize, end: usize) -> bool
     ensures { result ≡ some_named s.now (octets_from s.now a n) (children_of s.now at end) }
 {
     let mut found = false;
-    let mut i = at;
-    'names: while i < end {
-        let name = der::head_at(s, i, end);
-        i = name.end;
+    'names: for name in der::children_of(s, at, end) {
         let body = name.body;
         let mut k = 0;
         if !((name.tag == 130) & (octets::minus(name.end, body) == n)) {
