@@ -93,14 +93,5 @@ pub fn same_identifier(s: &[u8], a: Head, b: Head) -> bool
 pub fn seen_before(s: &[u8], from: usize, h: Head) -> bool
     ensures { result ≡ seen_before s.now from h }
 {
-    let end = h.at;
-    let mut i = from;
-    while i < end {
-        let e = der::head_at(s, i, end);
-        if same_identifier(s, e, h) {
-            return true;
-        }
-        i = e.end;
-    }
-    false
+    der::children_of(s, from, h.at).any(|e| same_identifier(s, e, h))
 }

@@ -68,19 +68,14 @@ fn is_repeat(s: &[u8], from: usize, slot: usize, first: Head, e: Head) -> bool
 fn first_extensions(s: &[u8], list: Head) -> Firsts
     ensures { result ≡ firsts_of s.now list }
 {
-    let end = list.end;
-    let from = list.body;
-    let none = der::missing(end);
+    let none = der::missing(list.end);
     let mut firsts = [none; SLOTS];
     let mut repeated = false;
-    let mut i = from;
-    while i < end {
-        let e = der::head_at(s, i, end);
+    for e in der::members_in(s, list) {
         let slot = slot_of(s, e);
         let first = firsts[slot];
-        repeated = repeated | is_repeat(s, from, slot, first, e);
+        repeated = repeated | is_repeat(s, list.body, slot, first, e);
         firsts[slot] = or_else(first, e);
-        i = e.end;
     }
     Firsts {
         each: firsts,
@@ -92,17 +87,9 @@ fn first_extensions(s: &[u8], list: Head) -> Firsts
 pub fn first_in_slot(s: &[u8], list: Head, slot: usize) -> Head
     ensures { result ≡ first_in_slot s.now list.end (members_in s.now list) slot }
 {
-    let end = list.end;
-    let mut i = list.body;
-    while i < end {
-        let e = der::head_at(s, i, end);
-        let found = slot_of(s, e);
-        if found == slot {
-            return e;
-        }
-        i = e.end;
-    }
-    der::missing(end)
+    der::members_in(s, list)
+        .find(|e| slot_of(s, *e) == slot)
+        .unwrap_or(der::missing(list.end))
 }
 
 // Whether the value of the Extension h, in an OCTET STRING, passes 340+slot.

@@ -1,6 +1,7 @@
 // The first item of a kind. Where there is none, the answer is the missing member at the end of the list.
 ghost use Rattle.std.specs.Prelude.{◌≡◌, not};
 ghost use Rattle.der.specs.Header.{children_of};
+ghost use Rattle.der.specs.Members.{members_in};
 ghost use Rattle.der.specs.Elements.{first_of, any_of};
 ghost use Rattle.forms.specs.Kinds.{of_kind};
 ghost use Rattle.forms.specs.Lists.{items_within};
@@ -14,15 +15,9 @@ use profiles::Profile;
 fn first(kind: Kind, p: Profile, s: &[u8], from: usize, to: usize) -> Head
     ensures { result ≡ first_of (of_kind kind p s.now) to (children_of s.now from to) }
 {
-    let mut at = from;
-    while at < to {
-        let item = der::head_at(s, at, to);
-        if is_of_kind(kind, p, s, item) {
-            return item;
-        }
-        at = item.end;
-    }
-    der::missing(to)
+    der::children_of(s, from, to)
+        .find(|item| is_of_kind(kind, p, s, *item))
+        .unwrap_or(der::missing(to))
 }
 
 // Whether there is none among the elements from `from` to `to`.
@@ -32,21 +27,21 @@ pub fn none_of(kind: Kind, p: Profile, s: &[u8], from: usize, to: usize) -> bool
     der::is_none(first(kind, p, s, from, to))
 }
 
+// Of the members of an element.
+fn first_held(kind: Kind, p: Profile, s: &[u8], h: Head) -> Head
+    ensures { result ≡ first_of (of_kind kind p s.now) h.end (members_in s.now h) }
+{
+    first(kind, p, s, h.body, h.end)
+}
+
 // Of the items within the elements from `from` to `to`.
 pub fn first_within(nest: Nest, kind: Kind, p: Profile, s: &[u8], from: usize, to: usize) -> Head
     ensures { result ≡ first_of (of_kind kind p s.now) to (items_within nest s.now from to) }
 {
-    let mut at = from;
-    while at < to {
-        let h = der::head_at(s, at, to);
-        let holder = holder_in(nest, s, h);
-        let item = first(kind, p, s, holder.body, holder.end);
-        if item.at < item.end {
-            return item;
-        }
-        at = h.end;
-    }
-    der::missing(to)
+    der::children_of(s, from, to)
+        .map(|h| first_held(kind, p, s, holder_in(nest, s, h)))
+        .find(|item| !der::is_none(*item))
+        .unwrap_or(der::missing(to))
 }
 
 // Whether there is none among them.

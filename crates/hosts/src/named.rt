@@ -30,13 +30,5 @@ fn is_named(s: &[u8], a: usize, n: usize, name: Head) -> bool
 pub fn some_same(s: &[u8], a: usize, n: usize, at: usize, end: usize) -> bool
     ensures { result ≡ some_named s.now (octets_from s.now a n) (children_of s.now at end) }
 {
-    let mut i = at;
-    while i < end {
-        let name = der::head_at(s, i, end);
-        if is_named(s, a, n, name) {
-            return true;
-        }
-        i = name.end;
-    }
-    false
+    der::children_of(s, at, end).any(|name| is_named(s, a, n, name))
 }

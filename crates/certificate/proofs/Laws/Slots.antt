@@ -20,11 +20,10 @@ use Rattle.certificate.specs.Extensions.{slot_of, seen_before}
 use Rattle.certificate.specs.Slots.{numbers_from, slot_count, by_slot, first_in_slot, has_repeats}
 use Rattle.certificate.specs.Workings.Slots.{firsts_of}
 use Rattle.certificate.specs.declared.slots.Firsts.{Firsts}
-use Rattle.der.specs.Header.{head_of, children_of}
+use Rattle.der.specs.Header.{children_of}
 use Rattle.der.specs.Members.{missing, members_in}
 use Rattle.der.specs.Elements.{any_of, first_of, is_empty}
 use Rattle.der.specs.declared.header.Head.{Head}
-use Rattle.der.proofs.Laws.Children.{children_done, children_next}
 use Rattle.der.proofs.Laws.Any.{any_join}
 use Rattle.der.proofs.Laws.Searching.{Full, children_full, first_none, first_missing, first_join}
 use Rattle.certificate.proofs.Laws.Extensions.{slot_below, repeat_is}
@@ -110,10 +109,11 @@ module _ {A : Type 0} where
 abbrev pub unread : Head
 unread = record { at = 0; tag = 0; body = 0; end = 0; sound = false }
 
--- of the elements from place from to end those before place i, the first of them in each slot, and whether one of them repeats an identifier
-pub record Seen (s : List ℕ) (from end i : ℕ) (firsts : List Head) (repeated : Bool) : Type 0 where
+-- of the elements from place from to end those before the ones that are left, the first of them in each slot, and whether one of them repeats
+-- an identifier
+pub record Seen (s : List ℕ) (from end : ℕ) (left : List Head) (firsts : List Head) (repeated : Bool) : Type 0 where
   pub past : List Head
-  pub all : children_of s from end ≡ past ++ children_of s i end
+  pub all : children_of s from end ≡ past ++ left
   pub each : firsts ≡ by_slot (first_in_slot s end past)
   pub any : repeated ≡ any_of (seen_before s from) past
 
@@ -121,12 +121,13 @@ none_in : (s : List ℕ) (end : ℕ) (slot : ℕ) → missing end ≡ first_in_s
 unfolding first_in_slot
 none_in s end slot = sym (first_none (λ (h : Head). eqb (slot_of s h) slot) end)
 
-pub seen_none : (s : List ℕ) (from end : ℕ) (none : Head) → none ≡ missing end → Seen s from end from (replicate slot_count none) false
+pub seen_none : (s : List ℕ) (from end : ℕ) (none : Head) → none ≡ missing end → {left : List Head} → left ≡ children_of s from end
+    → Seen s from end left (replicate slot_count none) false
 unfolding any_of
-seen_none s from end none e =
+seen_none s from end none e l =
     record {
       past = [];
-      all = refl;
+      all = sym l;
       each = by_slot_none none ∙ by_slot_same none _ _ (λ slot h. e ∙ none_in s end slot);
       any = refl;
     }
@@ -156,19 +157,16 @@ module _ (s : List ℕ) (end : ℕ) (past : List Head) (e : Head) (full : Full p
       go true t = sym (none_before slot t)
       go false t = refl
 
--- e is the extension at i, k its slot and first the first before it there, again whether it repeats, and r what its slot then has
-module _ (s : List ℕ) (from end i : ℕ) (firsts : List Head) (repeated : Bool) (seen : Seen s from end i firsts repeated)
-    (e first r d : Head) (k : ℕ) (again : Bool) (l : i < end) (is : e ≡ head_of s i end) (slot_is : k ≡ slot_of s e)
+-- e is the first extension that is left, k its slot and first the first before it there, again whether it repeats, and r what its slot then has
+module _ (s : List ℕ) (from end : ℕ) (left rest firsts : List Head) (repeated : Bool) (seen : Seen s from end left firsts repeated)
+    (e first r d : Head) (k : ℕ) (again : Bool) (is : left ≡ e ∷ rest) (slot_is : k ≡ slot_of s e)
     (first_is_lem : first ≡ get_or firsts k d) (r_is : r ≡ cond (is_empty first) e first)
     (again_is : again ≡ (not (is_empty first) && (not (eqb k 0) || seen_before s from e))) where
   abbrev past : List Head
   past = seen.past
 
-  abbrev rest : List Head
-  rest = children_of s e.end end
-
   all : children_of s from end ≡ past ++ (e ∷ rest)
-  all = seen.all ∙ ap (λ (l : List Head). past ++ l) (children_next s i end l ∙ (λ j. sym is j ∷ children_of s (sym is j).end end))
+  all = seen.all ∙ ap (λ (l : List Head). past ++ l) is
 
   full : Full past
   full g m = children_full s from end g (subst (Memᴰ g) (sym all) (Memᴰ.append_left (e ∷ rest) m))
@@ -192,7 +190,7 @@ module _ (s : List ℕ) (from end i : ℕ) (firsts : List Head) (repeated : Bool
   unfolding any_of
   last = or-false (seen_before s from e)
 
-  pub seen_next : Seen s from end e.end (set firsts k r) (repeated || again)
+  pub seen_next : Seen s from end rest (set firsts k r) (repeated || again)
   seen_next =
       record {
         past = past ++ (e ∷ []);
@@ -204,11 +202,11 @@ module _ (s : List ℕ) (from end i : ℕ) (firsts : List Head) (repeated : Bool
         any = (λ j. seen.any j || (again_seen ∙ sym last) j) ∙ sym (any_join (seen_before s from) past (e ∷ []));
       }
 
-pub seen_all : (s : List ℕ) (list : Head) (i : ℕ) (firsts : List Head) (repeated : Bool) → list.end ≤ i
-    → Seen s list.body list.end i firsts repeated → ◌≡◌ {A = Firsts} (record { each = firsts; repeated = repeated }) (firsts_of s list)
+pub seen_all : (s : List ℕ) (list : Head) (left firsts : List Head) (repeated : Bool) → left ≡ []
+    → Seen s list.body list.end left firsts repeated → ◌≡◌ {A = Firsts} (record { each = firsts; repeated = repeated }) (firsts_of s list)
 unfolding firsts_of has_repeats
-seen_all s list i firsts repeated l seen =
-    let none_left = ap (λ (l : List Head). seen.past ++ l) (children_done s i list.end l) in
+seen_all s list left firsts repeated l seen =
+    let none_left = ap (λ (l : List Head). seen.past ++ l) l in
     let all : seen.past ≡ members_in s list = sym (seen.all ∙ (none_left ∙ append-nil seen.past)) in
     let each : firsts ≡ by_slot (first_in_slot s list.end (members_in s list)) = seen.each ∙ ap (λ (l : List Head). by_slot (first_in_slot s list.end l)) all in
     let any : repeated ≡ any_of (seen_before s list.body) (members_in s list) = seen.any ∙ ap (any_of (seen_before s list.body)) all in

@@ -1,31 +1,12 @@
 -- At least one of the elements of a list.
---     forward                    an element ends after it starts, and within its list
---     any_done                   none left
---     any_next                   the first, which is h, or one of those after it
 --     any_join                   of two lists, one behind the other
 --     any_same, any_follows      tests that agree; a test that another follows from
 -- Assumes nothing.
 use mathlib.Core.Path.{◌≡◌, refl, ap, ◌∙◌}
 use mathlib.Core.List.{List, [], ◌∷◌, ◌++◌}
 use mathlib.Core.Bool.{Bool, true, false, ◌||◌}
-use Prim.Native.Nat.{ℕ, ◌≤◌, ◌<◌}
-use Rattle.der.specs.Header.{head_of, children_of}
 use Rattle.der.specs.Elements.{any_of}
 use Rattle.der.specs.declared.header.Head.{Head}
-use Rattle.der.proofs.Laws.Header.{head_forward}
-use Rattle.der.proofs.Laws.Children.{children_done, children_next}
-
-pub any_done : (test : Head → Bool) (s : List ℕ) (at end : ℕ) → end ≤ at → any_of test (children_of s at end) ≡ false
-unfolding any_of
-any_done test s at end l = rw (children_done s at end l)
-
-pub forward : (s : List ℕ) (at end : ℕ) (h : Head) → at < end → h ≡ head_of s at end → (at < h.end) × (h.end ≤ end)
-forward s at end h l e = rw e (head_forward s at end l)
-
-module _ (test : Head → Bool) (s : List ℕ) (at end : ℕ) (h : Head) (l : at < end) (e : h ≡ head_of s at end) where
-  pub any_next : any_of test (children_of s at end) ≡ (test h || any_of test (children_of s h.end end))
-  unfolding any_of
-  any_next = rw (children_next s at end l, e)
 
 module _ (test : Head → Bool) where
   pub any_join : (gs hs : List Head) → any_of test (gs ++ hs) ≡ (any_of test gs || any_of test hs)

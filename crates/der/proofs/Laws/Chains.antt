@@ -1,16 +1,18 @@
 -- A walk along the elements of a stretch, in a chain.
 --     walked                 it yields those that it has not come to yet
 --     any_is, find_is        `any` and `find` answer what the definitions say
+--     found                  what `find` gives, or else the missing element
 -- Assumes nothing.
-use mathlib.Core.Path.{◌≡◌, refl, ap}
+use mathlib.Core.Path.{◌≡◌, refl, sym, ap, ◌∙◌}
 use mathlib.Core.List.{List, [], ◌∷◌}
 use mathlib.Core.Bool.{Bool, true, false, cond, ◌||◌}
 use Prim.Native.Nat.{ℕ}
-use Rattle.std.specs.Prelude.{Some}
-use Rattle.std.specs.Option.{unwrap_or}
+use Rattle.std.specs.Prelude.{Option, Some}
+use Rattle.std.specs.Option.{option_map, unwrap_or}
 use Rattle.std.specs.List.{list_any, find}
 use Rattle.std.specs.Iterator.{YieldsFirst}
 use Rattle.std.proofs.lemmas.Iterator.{YieldsList}
+use Rattle.std.proofs.lemmas.Iterator.Adapters.{option_map_id}
 use Rattle.std.proofs.lemmas.Iterator.Consumers.{YieldsList-from_first}
 use Rattle.der.specs.Members.{missing}
 use Rattle.der.specs.Children.{children_left}
@@ -36,3 +38,7 @@ module _ (test : Head → Bool) where
           → unwrap_or (cond b (Some h) (find test hs)) (missing end) ≡ cond b h (first_of test end hs)
       go true ih = refl
       go false ih = ih
+
+  -- what is found, or else the missing element
+  pub found : (end : ℕ) (hs : List Head) (r : Option Head) → option_map (λ h. h) r ≡ find test hs → unwrap_or r (missing end) ≡ first_of test end hs
+  found end hs r e = ap (λ (o : Option Head). unwrap_or o (missing end)) (sym (option_map_id r) ∙ e) ∙ find_is end hs

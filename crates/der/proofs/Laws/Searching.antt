@@ -1,22 +1,18 @@
--- A walk along the elements of a stretch, and a search that is left at the first which passes a test.
+-- The first element of a list that passes a test; and a walk along the elements of a stretch.
 --     first_none                   of no elements
 --     first_among, first_passes    what is found is one of the list, and passes
 --     any_full                     at least one passes exactly if there is a first
 --     first_missing                where there is none
---     first_join, first_here, first_later
---                                  of two lists: in the one, or else in the other
+--     first_join                   of two lists: in the one, or else in the other
 --     children_full, any_by_first  the same of the elements of a stretch
 --     nearer                       each turn of a walk goes on
---     Search, search_start, search_found, search_next, search_end
---                                  what is found from a place on is what is found in the whole stretch
---     search_true, search_false    whether anything is found
 -- Assumes nothing.
 use mathlib.Core.Path.{◌≡◌, refl, sym, ap, ◌∙◌}
 use mathlib.Core.List.Memᴰ
 use mathlib.Core.List.{List, [], ◌∷◌, ◌++◌, Memᴰ}
 use mathlib.Core.Bool.{Bool, true, false, cond, not, ◌||◌, false≢true}
 use mathlib.Core.Logic.{⊎_elim}
-use Prim.Native.Nat.{ℕ, ◌-◌, ◌≤◌, ◌<◌}
+use Prim.Native.Nat.{ℕ, ◌-◌, ◌<◌}
 use native.Mathlib.Nat.{le_refl}
 use native.Mathlib.Omega.{arith}
 use lib.Dec.{leb}
@@ -28,7 +24,7 @@ use Rattle.der.proofs.Terms.Walking.{Chain}
 use Rattle.der.proofs.Terms.Walking.Chain.{done, next}
 use Rattle.der.specs.declared.header.Head.{Head}
 use Rattle.der.proofs.Laws.Header.{head_start, head_forward}
-use Rattle.der.proofs.Laws.Children.{children_done, children_next}
+use Rattle.der.proofs.Laws.Children.{children_done}
 use Rattle.der.proofs.Laws.Walking.{children_chain}
 
 -- ---- the first that passes a test
@@ -100,13 +96,6 @@ module _ (test : Head → Bool) (end : ℕ) where
       go true ih = rw (lt-leb h.end h.at (f h (Memᴰ.head refl)))
       go false ih = ih
 
-  module _ (gs : List Head) (mid : ℕ) (hs : List Head) (item : Head) (f : Full gs) (e : item ≡ first_of test mid gs) where
-    pub first_here : is_empty item ≡ false → first_of test end (gs ++ hs) ≡ item
-    first_here t = rw (first_join gs mid hs f, ← e, t)
-
-    pub first_later : is_empty item ≡ true → first_of test end (gs ++ hs) ≡ first_of test end hs
-    first_later t = rw (first_join gs mid hs f, ← e, t)
-
 -- ---- of the elements of a stretch
 
 chain_full : {s : List ℕ} {end at : ℕ} {hs : List Head} → Chain s end at hs → Full hs
@@ -135,39 +124,3 @@ pub nearer : (s : List ℕ) (at end : ℕ) (h : Head) → at < end → h ≡ hea
 nearer s at end h l e =
     let f = head_forward s at end l in
     rw e (omega arith)
-
--- a search that began at `from` and has come to `at`
-pub record Search (test : Head → Bool) (s : List ℕ) (end from at : ℕ) : Type 0 where
-  pub same : first_of test end (children_of s from end) ≡ first_of test end (children_of s at end)
-
-pub search_start : (test : Head → Bool) (s : List ℕ) (end at : ℕ) → Search test s end at at
-search_start test s end at = record { same = refl }
-
-module _ {test : Head → Bool} {s : List ℕ} {end from at : ℕ} where
-  -- b is what the test says of h, the element here
-  met : {b : Bool} (h : Head) → at < end → h ≡ head_of s at end → b ≡ test h → Search test s end from at
-      → first_of test end (children_of s from end) ≡ cond b h (first_of test end (children_of s h.end end))
-  unfolding first_of
-  met h l e t found = rw (found.same, children_next s at end l, ← e, t)
-
-  pub search_found : {b : Bool} (h : Head) → at < end → h ≡ head_of s at end → b ≡ test h → b ≡ true → Search test s end from at
-      → h ≡ first_of test end (children_of s from end)
-  search_found h l e t b found = sym (rw b at (met h l e t found))
-
-  pub search_next : {b : Bool} (h : Head) → at < end → h ≡ head_of s at end → b ≡ test h → b ≡ false → Search test s end from at
-      → Search test s end from h.end
-  search_next h l e t b found = record { same = rw b at (met h l e t found) }
-
-  pub search_end : end ≤ at → Search test s end from at → missing end ≡ first_of test end (children_of s from end)
-  search_end l found = sym (found.same ∙ (ap (first_of test end) (children_done s at end l) ∙ first_none test end))
-
-  -- whether there is one
-  pub search_true : {b : Bool} (h : Head) → at < end → h ≡ head_of s at end → b ≡ test h → b ≡ true → Search test s end from at
-      → true ≡ any_of test (children_of s from end)
-  search_true h l e t b found =
-      let f = head_forward s at end l in
-      let some : is_empty h ≡ false = lt-leb h.end h.at (rw (e, head_start s at end) f.0) in
-      sym (any_by_first test s from end ∙ ap not (ap is_empty (sym (search_found h l e t b found)) ∙ some))
-
-  pub search_false : end ≤ at → Search test s end from at → false ≡ any_of test (children_of s from end)
-  search_false l found = sym (any_by_first test s from end ∙ ap not (ap is_empty (sym (search_end l found)) ∙ missing_empty end))

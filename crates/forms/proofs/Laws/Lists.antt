@@ -1,21 +1,24 @@
 -- Items within items.
 --     nested_joined                "each" over the members of elements is "each" over those of one after the other
---     within_found, within_passed, within_done      the first of them
+--     within_first                 the first of them
 --     within_any, turned           there is one exactly if there is a first
 --     items_in                     an item is a member of what holds the items of one of the elements
 --     parts_apart                  items in a part of each element: their starts rise
 --     sets_apart                   the same of the members of the elements
 --     one_joined                   "one X" among them
 -- Assumes nothing.
-use mathlib.Core.Path.{◌≡◌, refl}
-use mathlib.Core.Bool.{Bool, true, false, not}
+use mathlib.Core.Path.{◌≡◌, refl, sym, ◌∙◌}
+use mathlib.Core.Bool.{Bool, true, false, cond, not}
 use mathlib.Core.List.{List, [], ◌∷◌, ◌++◌, map, Memᴰ}
 use mathlib.Core.Logic.{⊎_elim}
 use Prim.Native.Nat.{ℕ, ◌≤◌, ◌<◌}
 use native.Mathlib.Nat.{le_refl}
 use native.Mathlib.Omega.{arith}
 use lib.Dec.{leb}
-use borrow.Author.Tests.{leb-true, leb-false, le-leb, lt-leb}
+use borrow.Author.Tests.{leb-true, leb-false}
+use Rattle.std.specs.Prelude.{Some}
+use Rattle.std.specs.Option.{unwrap_or}
+use Rattle.std.specs.List.{find}
 use Rattle.forms.specs.Lists.{members_of_each, holder_in, items_within, attributes_in}
 use Rattle.forms.specs.declared.nests.Nest.{Nest}
 use Rattle.forms.specs.declared.nests.Nest.TheVariants.{Set}
@@ -26,9 +29,9 @@ use Rattle.der.specs.declared.header.Head.{Head}
 use Rattle.der.proofs.Terms.Walking.{Chain}
 use Rattle.der.proofs.Terms.Walking.Chain.{done, next}
 use Rattle.der.proofs.Laws.Header.{head_forward, head_body}
-use Rattle.der.proofs.Laws.Children.{children_done, children_next}
+use Rattle.der.proofs.Laws.Children.{children_done}
 use Rattle.der.proofs.Laws.Walking.{children_chain}
-use Rattle.der.proofs.Laws.Searching.{Full, first_none, first_here, first_later, any_full, children_full}
+use Rattle.der.proofs.Laws.Searching.{Full, first_none, first_join, any_full, children_full}
 use Rattle.report.specs.Entries.{noted}
 use Rattle.report.proofs.Laws.Loops.{gathered}
 use Rattle.report.specs.Workings.Forms.{each, one, is_behind}
@@ -57,28 +60,28 @@ turned any false e = rw e
 
 -- ---- the first of them
 
+module _ (nest : Nest) (test : Head → Bool) (s : List ℕ) where
+  -- the first that passes among the items within an element
+  abbrev pub first_held : Head → Head
+  first_held h = first_of test (holder_in nest s h).end (members_in s (holder_in nest s h))
+
+  -- the first of those that are there
+  pub within_first : (end : ℕ) (hs : List Head)
+      → unwrap_or (find (λ h. not (is_empty h)) (map first_held hs)) (missing end) ≡ first_of test end (members_of_each s (map (holder_in nest s) hs))
+  unfolding members_of_each
+  within_first end [] = sym (first_none test end)
+  within_first end (h ∷ hs) =
+      go (is_empty (first_held h)) (within_first end hs)
+      ∙ sym (first_join test end (members_in s (holder_in nest s h)) (holder_in nest s h).end _ (children_full s _ _))
+    where
+      go : (b : Bool)
+          → unwrap_or (find (λ h. not (is_empty h)) (map first_held hs)) (missing end) ≡ first_of test end (members_of_each s (map (holder_in nest s) hs))
+          → unwrap_or (cond (not b) (Some (first_held h)) (find (λ h. not (is_empty h)) (map first_held hs))) (missing end)
+          ≡ cond b (first_of test end (members_of_each s (map (holder_in nest s) hs))) (first_held h)
+      go true ih = ih
+      go false ih = refl
+
 module _ (nest : Nest) (test : Head → Bool) (s : List ℕ) (at end : ℕ) where
-  -- item is the first that passes in holder, which holds the items of h, the next of the elements
-  module _ (h holder item : Head) (l : at < end) (e : h ≡ head_of s at end) (k : holder ≡ holder_in nest s h)
-      (f : item ≡ first_of test holder.end (children_of s holder.body holder.end)) where
-    next_items : items_within nest s at end ≡ children_of s holder.body holder.end ++ items_within nest s h.end end
-    unfolding items_within members_of_each
-    next_items = rw (children_next s at end l, ← e, k)
-
-    pub within_found : item.at < item.end → first_of test end (items_within nest s at end) ≡ item
-    within_found m =
-        rw next_items (first_here test end _ holder.end (items_within nest s h.end end) item (children_full s holder.body holder.end) f
-        (lt-leb item.end item.at m))
-
-    pub within_passed : item.end ≤ item.at → first_of test end (items_within nest s at end) ≡ first_of test end (items_within nest s h.end end)
-    within_passed m =
-        rw next_items (first_later test end _ holder.end (items_within nest s h.end end) item (children_full s holder.body holder.end) f
-        (le-leb item.end item.at m))
-
-  pub within_done : end ≤ at → first_of test end (items_within nest s at end) ≡ missing end
-  unfolding items_within members_of_each
-  within_done l = rw (children_done s at end l, first_none test end)
-
   -- items have an octet at least
   members_full : (hs : List Head) → Full (members_of_each s hs)
   unfolding members_of_each
