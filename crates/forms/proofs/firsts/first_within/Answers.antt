@@ -9,7 +9,7 @@ loop-at-init c = refl
 pub returns-then-item : goal.returns-then-item
 returns-then-item c =
     sym (c.loop-at.invariant ∙ within_found _ _ _ _ _ _ _ _ c.loop-at-test.true c.head_at-h.ensures c.holder_in-holder.ensures
-    c.first-item.ensures c.if-item.true)
+    c.first_among-item.ensures c.if-item.true)
 
 pub loop-at-smaller : goal.loop-at-smaller
 loop-at-smaller c = nearer _ _ _ _ c.loop-at-test.true c.head_at-h.ensures
@@ -17,7 +17,7 @@ loop-at-smaller c = nearer _ _ _ _ c.loop-at-test.true c.head_at-h.ensures
 pub loop-at-preserved : goal.loop-at-preserved
 loop-at-preserved c =
     c.loop-at.invariant ∙ within_passed _ _ _ _ _ _ _ _ c.loop-at-test.true c.head_at-h.ensures c.holder_in-holder.ensures
-    c.first-item.ensures c.if-item.false
+    c.first_among-item.ensures c.if-item.false
 
 pub returns : goal.returns
 returns c = c.missing.ensures ∙ sym (c.loop-at.invariant ∙ within_done _ _ _ _ _ c.loop-at-test.false)

@@ -1,6 +1,6 @@
 use mathlib.Core.Path.{◌∙◌}
 use Rattle.der.proofs.Laws.Searching.{nearer, search_start, search_found, search_next, search_end}
-use Rattle.forms.proofs.firsts.first.Goals as goal
+use Rattle.forms.proofs.firsts.first_among.Goals as goal
 
 pub returns-then-is_of_kind : goal.returns-then-is_of_kind
 returns-then-is_of_kind c = search_found _ c.loop-at-test.true c.head_at-item.ensures c.is_of_kind.ensures c.if-is_of_kind.true c.loop-at.invariant

@@ -1,8 +1,8 @@
--- `forms::firsts::first` meets its contract. Assumes nothing.
+-- `forms::firsts::first_among` meets its contract. Assumes nothing.
 use Prim.Native.Nat.{◌-◌}
 use Rattle.forms.specs.Kinds.{of_kind}
 use Rattle.der.proofs.Laws.Searching.{Search}
-use Rattle.forms.proofs.firsts.first.Given as goal
+use Rattle.forms.proofs.firsts.first_among.Given as goal
 
 abbrev pub invariant-loop-at : goal.invariant-loop-at
 invariant-loop-at l = Search (of_kind l.kind l.p l.s) l.s l.to l.from l.at
