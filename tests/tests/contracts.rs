@@ -21,7 +21,7 @@ fn lent(function: &Function) -> Vec<&str> {
         .split(|c: char| c == ',' || c == '(' || c == ')')
         .filter(|parameter| parameter.contains("&mut") && !is_stream(parameter.trim_end()))
         .filter_map(|parameter| parameter.split(':').next())
-        .map(str::trim)
+        .map(|name| name.trim().trim_start_matches("&mut "))
         .collect()
 }
 
@@ -95,6 +95,9 @@ fn a_bare_function_is_told_apart() {
     let head = "fn load(file: &mut impl Read, room: &mut [u8], last: &mut impl Write) -> u8 ensures { length room.new ≡ 9 }";
     let loading = Function { head: head.to_string(), ..filling };
     assert!(settles_buffers(&loading) && lent(&loading) == ["room"]);
+    let head = "fn put(&mut self, n: usize) ensures { Put n self.old self.new }";
+    let putting = Function { head: head.to_string(), ..loading };
+    assert!(settles_buffers(&putting) && lent(&putting) == ["self"]);
     let named = head_of("fn f() -> u8 ensures small { x } { 1 }");
     assert!(named.ends_with("} "));
 }
