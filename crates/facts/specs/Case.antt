@@ -11,6 +11,7 @@ use Rattle.certificate.specs.Issuer.{Known, known, issuer_of}
 use Rattle.certificate.specs.declared.fields.Certificate.{Certificate}
 use Rattle.certificate.specs.declared.key.Key.{Key}
 use Rattle.certificate.specs.declared.slots.Slot.{Slot}
+use Rattle.facts.specs.declared.Evidence.{Evidence}
 use Rattle.facts.specs.declared.Facts.{Facts}
 
 -- A certificate: its octets, its fields and its key; how each extension of the table stands, and which extensions have "an identifier seen before". Of its
@@ -70,3 +71,7 @@ case_of s f issuer =
       seen = seen_by s f.fields.extensions f.repeated;
       issuer = known issuer f.issuer;
     }
+
+-- and those with the octets that they were read of
+abbrev pub case_by : Evidence → Case
+case_by e = case_of e.octets.now e.facts e.issuer.now

@@ -1,5 +1,5 @@
 // What rules may look at: the fields of a certificate, its key, its extensions by slot, and of its issuer what counts. It is
-// read once. Every group of rules takes the same: the profile, the certificate's octets, these, and the issuer's octets.
+// read once. Every group of rules takes the same: the profile, and these with the octets that they were read of.
 #![tactic(auto)]
 
 ghost use Rattle.std.specs.Prelude.{◌≡◌};
@@ -17,6 +17,14 @@ pub struct Facts {
     // some extension has an identifier seen before
     pub repeated: bool,
     pub issuer: Issuer,
+}
+
+// What rules judge by: a certificate's octets, what was read of them and of its issuer's, and the issuer's octets.
+#[derive(Clone, Copy)]
+pub struct Evidence<'a> {
+    pub octets: &'a [u8],
+    pub facts: Facts,
+    pub issuer: &'a [u8],
 }
 
 pub fn facts_of(s: &[u8], issuer: &[u8]) -> Facts

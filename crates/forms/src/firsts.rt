@@ -4,15 +4,16 @@ ghost use Rattle.der.specs.Header.{children_of};
 ghost use Rattle.der.specs.Members.{members_in};
 ghost use Rattle.der.specs.Elements.{first_of, any_of};
 ghost use Rattle.forms.specs.Kinds.{of_kind};
-ghost use Rattle.forms.specs.Lists.{items_within};
+ghost use Rattle.forms.specs.Lists.{list_of, items_of, items_within};
 
+use crate::items::Items;
 use crate::kinds::{Kind, is_of_kind};
 use crate::nests::{Nest, holder_in};
 use der::Head;
 use profiles::Profile;
 
 // Of the elements from `from` to `to`.
-fn first(kind: Kind, p: Profile, s: &[u8], from: usize, to: usize) -> Head
+fn first_among(kind: Kind, p: Profile, s: &[u8], from: usize, to: usize) -> Head
     ensures { result ≡ first_of (of_kind kind p s.now) to (children_of s.now from to) }
 {
     der::children_of(s, from, to)
@@ -20,22 +21,15 @@ fn first(kind: Kind, p: Profile, s: &[u8], from: usize, to: usize) -> Head
         .unwrap_or(der::missing(to))
 }
 
-// Whether there is none among the elements from `from` to `to`.
-pub fn none_of(kind: Kind, p: Profile, s: &[u8], from: usize, to: usize) -> bool
-    ensures { result ≡ not (any_of (of_kind kind p s.now) (children_of s.now from to)) }
-{
-    der::is_none(first(kind, p, s, from, to))
-}
-
 // Of the members of an element.
 fn first_held(kind: Kind, p: Profile, s: &[u8], h: Head) -> Head
     ensures { result ≡ first_of (of_kind kind p s.now) h.end (members_in s.now h) }
 {
-    first(kind, p, s, h.body, h.end)
+    first_among(kind, p, s, h.body, h.end)
 }
 
 // Of the items within the elements from `from` to `to`.
-pub fn first_within(nest: Nest, kind: Kind, p: Profile, s: &[u8], from: usize, to: usize) -> Head
+fn first_within(nest: Nest, kind: Kind, p: Profile, s: &[u8], from: usize, to: usize) -> Head
     ensures { result ≡ first_of (of_kind kind p s.now) to (items_within nest s.now from to) }
 {
     der::children_of(s, from, to)
@@ -44,9 +38,18 @@ pub fn first_within(nest: Nest, kind: Kind, p: Profile, s: &[u8], from: usize, t
         .unwrap_or(der::missing(to))
 }
 
-// Whether there is none among them.
-pub fn none_within(nest: Nest, kind: Kind, p: Profile, s: &[u8], from: usize, to: usize) -> bool
-    ensures { result ≡ not (any_of (of_kind kind p s.now) (items_within nest s.now from to)) }
+pub fn first(kind: Kind, p: Profile, s: &[u8], items: Items) -> Head
+    ensures { result ≡ first_of (of_kind kind p s.now) (list_of items).end (items_of items s.now) }
 {
-    der::is_none(first_within(nest, kind, p, s, from, to))
+    match items {
+        Items::Members(list) => first_held(kind, p, s, list),
+        Items::Within(nest, list) => first_within(nest, kind, p, s, list.body, list.end),
+    }
+}
+
+// Whether there is none.
+pub fn none_of(kind: Kind, p: Profile, s: &[u8], items: Items) -> bool
+    ensures { result ≡ not (any_of (of_kind kind p s.now) (items_of items s.now)) }
+{
+    der::is_none(first(kind, p, s, items))
 }

@@ -1,55 +1,25 @@
 // "Each" and "one X" in a profile that judges the rule.
 ghost use Rattle.std.specs.Prelude.{[], ◌∷◌};
-ghost use Rattle.der.specs.Header.{children_of};
 ghost use Rattle.report.specs.Forms.{filter, ones_of};
 ghost use Rattle.report.specs.Rows.{◌⦂◌};
 ghost use Rattle.report.specs.Sinks.{SinkPuts};
 ghost use Rattle.forms.specs.Kinds.{of_kind};
-ghost use Rattle.forms.specs.Lists.{items_within, attributes_in};
+ghost use Rattle.forms.specs.Lists.{items_of, attributes_in};
 
+use crate::items::Items;
 use crate::kinds::Kind;
-use crate::loops::{each, each_within, one_within};
-use crate::nests::Nest;
+use crate::loops::{each, one};
 use der::Head;
 use profiles::Profile;
 use report::Sink;
 
-// The items are the elements from `from` to `to`.
-pub fn judge_each(
-    sink: &mut Sink,
-    p: Profile,
-    rule: usize,
-    kind: Kind,
-    s: &[u8],
-    from: usize,
-    to: usize,
-)
+pub fn judge_each(sink: &mut Sink, p: Profile, rule: usize, kind: Kind, s: &[u8], items: Items)
     ensures { SinkPuts p
-        (rule ⦂ filter (of_kind kind p s.now) (children_of s.now from to) ∷ [])
+        (rule ⦂ filter (of_kind kind p s.now) (items_of items s.now) ∷ [])
         sink.old sink.new }
 {
     if profiles::holds(p, rule) {
-        each(sink, rule, kind, p, s, from, to);
-    }
-}
-
-// The items are those within the elements from `from` to `to`.
-pub fn judge_within(
-    sink: &mut Sink,
-    p: Profile,
-    rule: usize,
-    nest: Nest,
-    kind: Kind,
-    s: &[u8],
-    from: usize,
-    to: usize,
-)
-    ensures { SinkPuts p
-        (rule ⦂ filter (of_kind kind p s.now) (items_within nest s.now from to) ∷ [])
-        sink.old sink.new }
-{
-    if profiles::holds(p, rule) {
-        each_within(sink, rule, nest, kind, p, s, from, to);
+        each(sink, rule, kind, p, s, items);
     }
 }
 
@@ -60,6 +30,6 @@ pub fn judge_one(sink: &mut Sink, p: Profile, rule: usize, kind: Kind, s: &[u8],
         sink.old sink.new }
 {
     if profiles::holds(p, rule) {
-        one_within(sink, rule, kind, p, s, name);
+        one(sink, rule, kind, p, s, name);
     }
 }

@@ -7,7 +7,8 @@ use der::Head;
 use locations::Method;
 use profiles::Profile;
 
-// What is asked of an item.
+// What is asked of an item. A kind and no closure: a public function that calls one has to require that it may be called, and
+// here public functions require nothing (docs/ARCHITECTURE.md, "What a crate holds").
 #[derive(Clone, Copy)]
 pub enum Kind {
     // an attribute with this arc below 2.5.4 (113, 114, 116, 118, 120)

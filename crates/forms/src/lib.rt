@@ -4,6 +4,7 @@
 
 mod extensions;
 mod firsts;
+mod items;
 mod judged;
 mod kinds;
 mod loops;
@@ -11,8 +12,9 @@ mod nests;
 mod values;
 
 pub use extensions::Repeats;
-pub use firsts::{first_within, none_of, none_within};
-pub use judged::{judge_each, judge_one, judge_within};
+pub use firsts::{first, none_of};
+pub use items::Items;
+pub use judged::{judge_each, judge_one};
 pub use kinds::Kind;
 pub use nests::Nest;
-pub use values::{judge_inner, judge_items, judge_value};
+pub use values::{judge_items, judge_value};

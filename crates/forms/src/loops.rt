@@ -4,9 +4,10 @@ ghost use Rattle.der.specs.Header.{children_of};
 ghost use Rattle.report.specs.Sinks.{SinkPut};
 ghost use Rattle.report.specs.Workings.Forms.{each as each_of, one, is_behind};
 ghost use Rattle.forms.specs.Kinds.{of_kind};
-ghost use Rattle.forms.specs.Lists.{items_within, attributes_in};
+ghost use Rattle.forms.specs.Lists.{items_of, items_within, attributes_in};
 
-use crate::firsts::first_within;
+use crate::firsts::first;
+use crate::items::Items;
 use crate::kinds::{Kind, is_of_kind};
 use crate::nests::{Nest, holder_in};
 use der::Head;
@@ -14,7 +15,7 @@ use profiles::Profile;
 use report::Sink;
 
 // The items are those of the elements from `from` to `to` that start at `place` or behind it.
-fn each_behind(
+fn each_among(
     sink: &mut Sink,
     rule: usize,
     kind: Kind,
@@ -37,17 +38,8 @@ fn each_behind(
     }
 }
 
-// The items are the elements from `from` to `to`.
-pub fn each(sink: &mut Sink, rule: usize, kind: Kind, p: Profile, s: &[u8], from: usize, to: usize)
-    ensures { SinkPut
-        (each_of rule (of_kind kind p s.now) (children_of s.now from to))
-        sink.old sink.new }
-{
-    each_behind(sink, rule, kind, p, s, 0, from, to);
-}
-
 // The items are those within the elements from `from` to `to` that start at `place` or behind it.
-fn each_within_behind(
+fn each_within(
     sink: &mut Sink,
     rule: usize,
     nest: Nest,
@@ -66,46 +58,49 @@ fn each_within_behind(
     while at < to {
         let h = der::head_at(s, at, to);
         let holder = holder_in(nest, s, h);
-        each_behind(sink, rule, kind, p, s, place, holder.body, holder.end);
+        each_among(sink, rule, kind, p, s, place, holder.body, holder.end);
         at = h.end;
     }
 }
 
-// The items are those within the elements from `from` to `to`.
-pub fn each_within(
+// Those of the items that start at `place` or behind it.
+fn each_behind(
     sink: &mut Sink,
     rule: usize,
-    nest: Nest,
     kind: Kind,
     p: Profile,
     s: &[u8],
-    from: usize,
-    to: usize,
+    items: Items,
+    place: usize,
 )
     ensures { SinkPut
-        (each_of rule (of_kind kind p s.now) (items_within nest s.now from to))
+        (each_of rule (is_behind (of_kind kind p s.now) place) (items_of items s.now))
         sink.old sink.new }
 {
-    each_within_behind(sink, rule, nest, kind, p, s, 0, from, to);
+    match items {
+        Items::Members(list) => {
+            each_among(sink, rule, kind, p, s, place, list.body, list.end);
+        }
+        Items::Within(nest, list) => {
+            each_within(sink, rule, nest, kind, p, s, place, list.body, list.end);
+        }
+    }
+}
+
+pub fn each(sink: &mut Sink, rule: usize, kind: Kind, p: Profile, s: &[u8], items: Items)
+    ensures { SinkPut (each_of rule (of_kind kind p s.now) (items_of items s.now)) sink.old sink.new }
+{
+    each_behind(sink, rule, kind, p, s, items, 0);
 }
 
 // "One X" among the attributes of the sets of a name, where X is an attribute of the kind.
-pub fn one_within(sink: &mut Sink, rule: usize, kind: Kind, p: Profile, s: &[u8], name: Head)
+pub fn one(sink: &mut Sink, rule: usize, kind: Kind, p: Profile, s: &[u8], name: Head)
     ensures { SinkPut
         (one rule (of_kind kind p s.now) name (attributes_in s.now name))
         sink.old sink.new }
 {
-    let found = first_within(Nest::Set, kind, p, s, name.body, name.end);
+    let attributes = Items::Within(Nest::Set, name);
+    let found = first(kind, p, s, attributes);
     sink.note(rule, found.end <= found.at, name);
-    each_within_behind(
-        sink,
-        rule,
-        Nest::Set,
-        kind,
-        p,
-        s,
-        found.end,
-        name.body,
-        name.end,
-    );
+    each_behind(sink, rule, kind, p, s, attributes, found.end);
 }

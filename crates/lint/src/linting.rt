@@ -1,7 +1,7 @@
 // The linter's answer: a pass that counts, over no room at all, and where there is something to write a pass that
 // writes.
 ghost use Rattle.std.specs.Prelude.{◌≡◌};
-ghost use Rattle.facts.specs.Case.{case_of};
+ghost use Rattle.facts.specs.Case.{case_by};
 ghost use Rattle.report.specs.Rows.{findings_of, Puts};
 ghost use Rattle.rules.specs.Rules.{all_rules, findings};
 ghost use Rattle.lint.specs.Refusals.{answer_values};
@@ -10,7 +10,7 @@ ghost use Rattle.lint.specs.Workings.Answers.{Reported};
 
 use crate::judging::examine;
 use crate::reasons::{Refusal, refusal_values};
-use facts::Facts;
+use facts::Evidence;
 use profiles::Profile;
 use refusals::{Values, unrefused};
 use report::Sink;
@@ -25,31 +25,25 @@ pub fn answer_values(answer: Result<usize, Refusal>) -> Values
     }
 }
 
-// A pass over all rules: the count of the findings by these facts, and the room with those that fit.
-fn pass(room: &mut [u8], p: Profile, s: &[u8], f: Facts, issuer: &[u8]) -> usize
-    ensures { Puts p (all_rules p (case_of s.now f issuer.now)) 0 room.old result room.new }
+// A pass over all rules: the count of the findings by this evidence, and the room with those that fit.
+fn pass(room: &mut [u8], p: Profile, evidence: &Evidence) -> usize
+    ensures { Puts p (all_rules p (case_by evidence.now)) 0 room.old result room.new }
 {
     let mut sink = Sink::new(room);
-    rules::all_rules(&mut sink, p, s, f, issuer);
+    rules::all_rules(&mut sink, p, evidence);
     sink.count
 }
 
-// The answer to the findings by these facts, and the room that they are written to.
-fn report_facts(
-    room: &mut [u8],
-    p: Profile,
-    s: &[u8],
-    f: Facts,
-    issuer: &[u8],
-) -> Result<usize, Refusal>
-    ensures { Reported (findings_of p (all_rules p (case_of s.now f issuer.now))) room.old result room.new }
+// The answer to the findings by this evidence, and the room that they are written to.
+fn report_facts(room: &mut [u8], p: Profile, evidence: &Evidence) -> Result<usize, Refusal>
+    ensures { Reported (findings_of p (all_rules p (case_by evidence.now))) room.old result room.new }
 {
-    let count = pass(&mut room[..0], p, s, f, issuer);
+    let count = pass(&mut room[..0], p, evidence);
     if !report::has_room(count, room.len()) {
         return Err(Refusal::NoRoom);
     }
     if 0 < count {
-        pass(room, p, s, f, issuer);
+        pass(room, p, evidence);
     }
     Ok(count)
 }
@@ -58,8 +52,12 @@ fn report_facts(
 fn report_on(room: &mut [u8], p: Profile, s: &[u8], issuer: &[u8]) -> Result<usize, Refusal>
     ensures { Reported (findings p s.now issuer.now) room.old result room.new }
 {
-    let f = facts::facts_of(s, issuer);
-    report_facts(room, p, s, f, issuer)
+    let evidence = Evidence {
+        octets: s,
+        facts: facts::facts_of(s, issuer),
+        issuer,
+    };
+    report_facts(room, p, &evidence)
 }
 
 // So many findings, written to the room, or a refusal.

@@ -4,20 +4,19 @@ ghost use Rattle.report.specs.Sinks.{SinkPuts};
 ghost use Rattle.rules_extensions.specs.Identifiers.{identifier_rows};
 
 use der::Head;
-use forms::{Kind, Repeats};
+use forms::{Items, Kind, Repeats};
 use profiles::Profile;
 use report::Sink;
 
 pub fn identifiers(sink: &mut Sink, p: Profile, s: &[u8], list: Head, repeated: bool)
     ensures { SinkPuts p (identifier_rows p s.now list (seen_by s.now list repeated)) sink.old sink.new }
 {
-    let from = list.body;
-    let to = list.end;
     let repeats = Repeats {
-        from: from,
+        from: list.body,
         some: repeated,
     };
-    forms::judge_each(sink, p, 361, Kind::Repeated(repeats), s, from, to);
-    forms::judge_each(sink, p, 362, Kind::Unwanted(repeats), s, from, to);
-    forms::judge_each(sink, p, 363, Kind::OutOfPlace(repeats), s, from, to);
+    let extensions = Items::Members(list);
+    forms::judge_each(sink, p, 361, Kind::Repeated(repeats), s, extensions);
+    forms::judge_each(sink, p, 362, Kind::Unwanted(repeats), s, extensions);
+    forms::judge_each(sink, p, 363, Kind::OutOfPlace(repeats), s, extensions);
 }

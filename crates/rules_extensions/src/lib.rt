@@ -5,22 +5,23 @@
 mod identifiers;
 mod slots;
 
-ghost use Rattle.facts.specs.Case.{case_of};
+ghost use Rattle.facts.specs.Case.{case_by};
 ghost use Rattle.report.specs.Sinks.{SinkPuts};
 ghost use Rattle.rules_extensions.specs.Rules.{extension_rows};
 
-use facts::Facts;
+use facts::Evidence;
 use profiles::Profile;
 use report::Sink;
 use slots::Question;
 
 // All of them, in order.
-pub fn extension_rules(sink: &mut Sink, p: Profile, s: &[u8], f: Facts, issuer: &[u8])
-    ensures { SinkPuts p (extension_rows p (case_of s.now f issuer.now)) sink.old sink.new }
+pub fn extension_rules(sink: &mut Sink, p: Profile, evidence: &Evidence)
+    ensures { SinkPuts p (extension_rows p (case_by evidence.now)) sink.old sink.new }
 {
-    let c = facts::fields_in(f);
-    let each = facts::slots_in(f);
-    let repeated = facts::has_repeats(f);
+    let s = evidence.octets;
+    let c = facts::fields_in(evidence.facts);
+    let each = facts::slots_in(evidence.facts);
+    let repeated = facts::has_repeats(evidence.facts);
     let list = slots::list_place(c);
     slots::over_slots(sink, Question::Missing, p, list, each);
     slots::over_slots(sink, Question::Criticality, p, list, each);

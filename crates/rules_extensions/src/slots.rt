@@ -12,6 +12,7 @@ use der::Head;
 use profiles::Profile;
 use report::Sink;
 
+// A question and no closure: a step has to know that its slot is one of the table, and changes the sink for the next.
 #[derive(Clone, Copy)]
 pub enum Question {
     // 300+s

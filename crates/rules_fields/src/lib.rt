@@ -5,21 +5,22 @@ mod algorithms;
 mod period;
 mod version;
 
-ghost use Rattle.facts.specs.Case.{case_of};
+ghost use Rattle.facts.specs.Case.{case_by};
 ghost use Rattle.report.specs.Sinks.{SinkPuts};
 ghost use Rattle.rules_fields.specs.Rules.{field_rows};
 
-use facts::Facts;
+use facts::Evidence;
 use profiles::Profile;
 use report::Sink;
 
 // All of them, in order.
-pub fn field_rules(sink: &mut Sink, p: Profile, s: &[u8], f: Facts, issuer: &[u8])
-    ensures { SinkPuts p (field_rows p (case_of s.now f issuer.now)) sink.old sink.new }
+pub fn field_rules(sink: &mut Sink, p: Profile, evidence: &Evidence)
+    ensures { SinkPuts p (field_rows p (case_by evidence.now)) sink.old sink.new }
 {
-    let c = facts::fields_in(f);
-    let i = facts::issuer_in(f);
+    let s = evidence.octets;
+    let c = facts::fields_in(evidence.facts);
+    let i = facts::issuer_in(evidence.facts);
     version::version_and_serial(sink, p, s, c);
-    algorithms::algorithms_and_name(sink, p, s, c, issuer, i.name);
+    algorithms::algorithms_and_name(sink, p, s, c, evidence.issuer, i.name);
     period::validity(sink, p, c);
 }

@@ -3,7 +3,7 @@ ghost use Rattle.report.specs.Sinks.{SinkPuts};
 ghost use Rattle.rules_subject.specs.Attributes.{country_rows, organization_rows};
 
 use der::Head;
-use forms::{Kind, Nest};
+use forms::{Items, Kind, Nest};
 use profiles::Profile;
 use report::Sink;
 
@@ -11,31 +11,20 @@ use report::Sink;
 pub fn name_and_country(sink: &mut Sink, p: Profile, s: &[u8], name: Head)
     ensures { SinkPuts p (country_rows p s.now name) sink.old sink.new }
 {
-    let from = name.body;
-    let to = name.end;
-    forms::judge_within(sink, p, 112, Nest::Set, Kind::Foreign, s, from, to);
+    let attributes = Items::Within(Nest::Set, name);
+    forms::judge_each(sink, p, 112, Kind::Foreign, s, attributes);
     forms::judge_one(sink, p, 113, Kind::Attribute(3), s, name);
     forms::judge_one(sink, p, 114, Kind::Attribute(6), s, name);
-    forms::judge_within(sink, p, 115, Nest::Set, Kind::OtherCountry, s, from, to);
+    forms::judge_each(sink, p, 115, Kind::OtherCountry, s, attributes);
 }
 
 // Rules 116 to 119. O is 10, ST is 8.
 pub fn organization_and_state(sink: &mut Sink, p: Profile, s: &[u8], name: Head)
     ensures { SinkPuts p (organization_rows p s.now name) sink.old sink.new }
 {
-    let from = name.body;
-    let to = name.end;
+    let attributes = Items::Within(Nest::Set, name);
     forms::judge_one(sink, p, 116, Kind::Attribute(10), s, name);
-    forms::judge_within(
-        sink,
-        p,
-        117,
-        Nest::Set,
-        Kind::OtherOrganization,
-        s,
-        from,
-        to,
-    );
+    forms::judge_each(sink, p, 117, Kind::OtherOrganization, s, attributes);
     forms::judge_one(sink, p, 118, Kind::Attribute(8), s, name);
-    forms::judge_within(sink, p, 119, Nest::Set, Kind::OtherState, s, from, to);
+    forms::judge_each(sink, p, 119, Kind::OtherState, s, attributes);
 }

@@ -6,7 +6,7 @@ ghost use Rattle.rules_subject.specs.CommonName.{is_unnamed, name_rows};
 
 use certificate::Slot;
 use der::Head;
-use forms::{Kind, Nest};
+use forms::{Items, Kind, Nest};
 use profiles::Profile;
 use report::Sink;
 
@@ -26,12 +26,12 @@ fn is_unnamed(judged: bool, s: &[u8], cn: Head, alternative: Head) -> bool
 pub fn name_and_sets(sink: &mut Sink, p: Profile, s: &[u8], name: Head, v: Slot)
     ensures { SinkPuts p (name_rows s.now name (standing_by v)) sink.old sink.new }
 {
-    let from = name.body;
-    let to = name.end;
-    let cn = forms::first_within(Nest::Set, Kind::Attribute(3), p, s, from, to);
+    let sets = Items::Members(name);
+    let attributes = Items::Within(Nest::Set, name);
+    let cn = forms::first(Kind::Attribute(3), p, s, attributes);
     let judged = profiles::holds(p, 120) & v.good;
     let unnamed = is_unnamed(judged, s, cn, v.element);
     sink.judge(p, 120, unnamed, cn);
-    forms::judge_each(sink, p, 121, Kind::Crowded, s, from, to);
-    forms::judge_within(sink, p, 122, Nest::Set, Kind::OtherAuthority, s, from, to);
+    forms::judge_each(sink, p, 121, Kind::Crowded, s, sets);
+    forms::judge_each(sink, p, 122, Kind::OtherAuthority, s, attributes);
 }

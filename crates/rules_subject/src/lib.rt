@@ -4,20 +4,21 @@
 mod attributes;
 mod common_name;
 
-ghost use Rattle.facts.specs.Case.{case_of};
+ghost use Rattle.facts.specs.Case.{case_by};
 ghost use Rattle.report.specs.Sinks.{SinkPuts};
 ghost use Rattle.rules_subject.specs.Rules.{subject_rows};
 
-use facts::Facts;
+use facts::Evidence;
 use profiles::Profile;
 use report::Sink;
 
 // All of them, in order.
-pub fn subject_rules(sink: &mut Sink, p: Profile, s: &[u8], f: Facts, issuer: &[u8])
-    ensures { SinkPuts p (subject_rows p (case_of s.now f issuer.now)) sink.old sink.new }
+pub fn subject_rules(sink: &mut Sink, p: Profile, evidence: &Evidence)
+    ensures { SinkPuts p (subject_rows p (case_by evidence.now)) sink.old sink.new }
 {
-    let c = facts::fields_in(f);
-    let slots = facts::slots_in(f);
+    let s = evidence.octets;
+    let c = facts::fields_in(evidence.facts);
+    let slots = facts::slots_in(evidence.facts);
     let name = c.subject;
     attributes::name_and_country(sink, p, s, name);
     attributes::organization_and_state(sink, p, s, name);

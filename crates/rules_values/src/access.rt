@@ -4,7 +4,7 @@ ghost use Rattle.report.specs.Sinks.{SinkPuts};
 ghost use Rattle.rules_values.specs.Access.{access_rows};
 
 use certificate::Slot;
-use forms::Kind;
+use forms::{Items, Kind};
 use locations::Method;
 use profiles::Profile;
 use report::Sink;
@@ -13,11 +13,18 @@ use report::Sink;
 pub fn access_rules(sink: &mut Sink, p: Profile, s: &[u8], v: Slot)
     ensures { SinkPuts p (access_rows s.now (standing_by v)) sink.old sink.new }
 {
-    let from = v.element.body;
-    let to = v.element.end;
-    let ocsp = forms::none_of(Kind::UriBy(Method::Ocsp), p, s, from, to);
-    let issuers = forms::none_of(Kind::UriBy(Method::CaIssuers), p, s, from, to);
+    let entries = Items::Members(v.element);
+    let ocsp = forms::none_of(Kind::UriBy(Method::Ocsp), p, s, entries);
+    let issuers = forms::none_of(Kind::UriBy(Method::CaIssuers), p, s, entries);
     forms::judge_value(sink, p, 415, v, ocsp);
     forms::judge_value(sink, p, 416, v, issuers);
-    forms::judge_items(sink, p, 417, Kind::NotHttpBy(Method::CaIssuers), s, v);
+    forms::judge_items(
+        sink,
+        p,
+        417,
+        v,
+        Kind::NotHttpBy(Method::CaIssuers),
+        s,
+        entries,
+    );
 }

@@ -6,7 +6,7 @@ ghost use Rattle.rules_values.specs.Authority.{is_last_authority, authority_rows
 
 use certificate::Slot;
 use der::Head;
-use forms::{Kind, Nest};
+use forms::{Items, Kind, Nest};
 use locations::Method;
 use profiles::Profile;
 use report::Sink;
@@ -32,10 +32,20 @@ pub fn authority_rules(
         (authority_rows s.now (standing_by constraints) (standing_by usage) (standing_by access) (standing_by points))
         sink.old sink.new }
 {
+    let entries = Items::Members(access.element);
+    let names = Items::Within(Nest::Point, points.element);
     let last = is_last_authority(s, constraints.element);
     let signs = usages::signs_for_authority(s, usage.element);
     forms::judge_value(sink, p, 421, constraints, !last);
     forms::judge_value(sink, p, 422, usage, !signs);
-    forms::judge_items(sink, p, 423, Kind::NotHttpBy(Method::Ocsp), s, access);
-    forms::judge_inner(sink, p, 424, Nest::Point, Kind::OtherUri, s, points);
+    forms::judge_items(
+        sink,
+        p,
+        423,
+        access,
+        Kind::NotHttpBy(Method::Ocsp),
+        s,
+        entries,
+    );
+    forms::judge_items(sink, p, 424, points, Kind::OtherUri, s, names);
 }

@@ -11,23 +11,24 @@ mod policy;
 mod purposes;
 mod usage;
 
-ghost use Rattle.facts.specs.Case.{case_of};
+ghost use Rattle.facts.specs.Case.{case_by};
 ghost use Rattle.report.specs.Sinks.{SinkPuts};
 ghost use Rattle.rules_values.specs.Rules.{value_rows};
 
-use facts::Facts;
+use facts::Evidence;
 use profiles::Profile;
 use report::Sink;
 
 // All of them, in order.
-pub fn value_rules(sink: &mut Sink, p: Profile, s: &[u8], f: Facts, issuer: &[u8])
-    ensures { SinkPuts p (value_rows p (case_of s.now f issuer.now)) sink.old sink.new }
+pub fn value_rules(sink: &mut Sink, p: Profile, evidence: &Evidence)
+    ensures { SinkPuts p (value_rows p (case_by evidence.now)) sink.old sink.new }
 {
-    let key = facts::key_in(f);
+    let s = evidence.octets;
+    let key = facts::key_in(evidence.facts);
     let kind = key.kind;
-    let i = facts::issuer_in(f);
-    let slots = facts::slots_in(f);
-    identifiers::identifier_rules(sink, p, s, slots[1], slots[2], slots[3], issuer, i);
+    let i = facts::issuer_in(evidence.facts);
+    let slots = facts::slots_in(evidence.facts);
+    identifiers::identifier_rules(sink, p, s, slots[1], slots[2], slots[3], evidence.issuer, i);
     usage::usage_rules(sink, p, s, kind, slots[4]);
     purposes::purpose_rules(sink, p, s, slots[5]);
     policy::policy_rules(sink, p, s, slots[6]);

@@ -4,7 +4,7 @@ ghost use Rattle.report.specs.Sinks.{SinkPuts};
 ghost use Rattle.rules_values.specs.Hosts.{host_rows};
 
 use certificate::Slot;
-use forms::Kind;
+use forms::{Items, Kind};
 use profiles::Profile;
 use report::Sink;
 
@@ -12,7 +12,8 @@ use report::Sink;
 pub fn host_rules(sink: &mut Sink, p: Profile, s: &[u8], v: Slot)
     ensures { SinkPuts p (host_rows s.now (standing_by v)) sink.old sink.new }
 {
-    forms::judge_items(sink, p, 412, Kind::NotHost, s, v);
-    forms::judge_items(sink, p, 413, Kind::Underscore, s, v);
-    forms::judge_items(sink, p, 414, Kind::NoHostName, s, v);
+    let names = Items::Members(v.element);
+    forms::judge_items(sink, p, 412, v, Kind::NotHost, s, names);
+    forms::judge_items(sink, p, 413, v, Kind::Underscore, s, names);
+    forms::judge_items(sink, p, 414, v, Kind::NoHostName, s, names);
 }

@@ -4,7 +4,7 @@ ghost use Rattle.report.specs.Sinks.{SinkPuts};
 ghost use Rattle.rules_values.specs.Policies.{policy_rows};
 
 use certificate::Slot;
-use forms::{Kind, Nest};
+use forms::{Items, Kind, Nest};
 use profiles::Profile;
 use report::Sink;
 
@@ -12,11 +12,11 @@ use report::Sink;
 pub fn policy_rules(sink: &mut Sink, p: Profile, s: &[u8], v: Slot)
     ensures { SinkPuts p (policy_rows p s.now (standing_by v)) sink.old sink.new }
 {
-    let from = v.element.body;
-    let to = v.element.end;
-    let federal = forms::none_of(Kind::FederalPolicy, p, s, from, to);
-    let forum = forms::none_of(Kind::ForumPolicy, p, s, from, to);
+    let policies = Items::Members(v.element);
+    let qualifiers = Items::Within(Nest::Policy, v.element);
+    let federal = forms::none_of(Kind::FederalPolicy, p, s, policies);
+    let forum = forms::none_of(Kind::ForumPolicy, p, s, policies);
     forms::judge_value(sink, p, 409, v, federal);
     forms::judge_value(sink, p, 410, v, forum);
-    forms::judge_inner(sink, p, 411, Nest::Policy, Kind::OtherQualifier, s, v);
+    forms::judge_items(sink, p, 411, v, Kind::OtherQualifier, s, qualifiers);
 }

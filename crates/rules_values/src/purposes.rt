@@ -4,7 +4,7 @@ ghost use Rattle.report.specs.Sinks.{SinkPuts};
 ghost use Rattle.rules_values.specs.Purposes.{purpose_rows};
 
 use certificate::Slot;
-use forms::Kind;
+use forms::{Items, Kind};
 use profiles::Profile;
 use report::Sink;
 
@@ -12,7 +12,8 @@ use report::Sink;
 pub fn purpose_rules(sink: &mut Sink, p: Profile, s: &[u8], v: Slot)
     ensures { SinkPuts p (purpose_rows p s.now (standing_by v)) sink.old sink.new }
 {
-    let lacking = forms::none_of(Kind::WantedPurpose, p, s, v.element.body, v.element.end);
+    let purposes = Items::Members(v.element);
+    let lacking = forms::none_of(Kind::WantedPurpose, p, s, purposes);
     forms::judge_value(sink, p, 407, v, lacking);
-    forms::judge_items(sink, p, 408, Kind::OtherPurpose, s, v);
+    forms::judge_items(sink, p, 408, v, Kind::OtherPurpose, s, purposes);
 }

@@ -1,7 +1,7 @@
 -- Items within items.
 --     nested_joined                "each" over the members of elements is "each" over those of one after the other
 --     within_first                 the first of them
---     within_any, turned           there is one exactly if there is a first
+--     any_items, turned            there is one exactly if there is a first
 --     items_in                     an item is a member of what holds the items of one of the elements
 --     parts_apart                  items in a part of each element: their starts rise
 --     sets_apart                   the same of the members of the elements
@@ -19,7 +19,9 @@ use borrow.Author.Tests.{leb-true, leb-false}
 use Rattle.std.specs.Prelude.{Some}
 use Rattle.std.specs.Option.{unwrap_or}
 use Rattle.std.specs.List.{find}
-use Rattle.forms.specs.Lists.{members_of_each, holder_in, items_within, attributes_in}
+use Rattle.forms.specs.Lists.{members_of_each, holder_in, items_within, list_of, items_of, attributes_in}
+use Rattle.forms.specs.declared.items.Items.{Items}
+use Rattle.forms.specs.declared.items.Items.TheVariants.{Members, Within}
 use Rattle.forms.specs.declared.nests.Nest.{Nest}
 use Rattle.forms.specs.declared.nests.Nest.TheVariants.{Set}
 use Rattle.der.specs.Header.{head_of, children_of}
@@ -31,7 +33,7 @@ use Rattle.der.proofs.Terms.Walking.Chain.{done, next}
 use Rattle.der.proofs.Laws.Header.{head_forward, head_body}
 use Rattle.der.proofs.Laws.Children.{children_done}
 use Rattle.der.proofs.Laws.Walking.{children_chain}
-use Rattle.der.proofs.Laws.Searching.{Full, first_none, first_join, any_full, children_full}
+use Rattle.der.proofs.Laws.Searching.{Full, first_none, first_join, any_full, any_by_first, children_full}
 use Rattle.report.specs.Entries.{noted}
 use Rattle.report.proofs.Laws.Loops.{gathered}
 use Rattle.report.specs.Workings.Forms.{each, one, is_behind}
@@ -89,9 +91,14 @@ module _ (nest : Nest) (test : Head → Bool) (s : List ℕ) (at end : ℕ) wher
   members_full (h ∷ hs) g m =
       ⊎_elim (children_full s h.body h.end g) (members_full hs g) (mathlib.Core.List.Memᴰ.append_cases (children_of s h.body h.end) m)
 
-  pub within_any : any_of test (items_within nest s at end) ≡ not (is_empty (first_of test end (items_within nest s at end)))
+  within_any : any_of test (items_within nest s at end) ≡ not (is_empty (first_of test end (items_within nest s at end)))
   unfolding items_within
   within_any = any_full test end _ (members_full (map (holder_in nest s) (children_of s at end)))
+
+pub any_items : (items : Items) (test : Head → Bool) (s : List ℕ)
+    → any_of test (items_of items s) ≡ not (is_empty (first_of test (list_of items).end (items_of items s)))
+any_items (Members list) test s = any_by_first test s list.body list.end
+any_items (Within nest list) test s = within_any nest test s list.body list.end
 
 -- ---- where they are
 

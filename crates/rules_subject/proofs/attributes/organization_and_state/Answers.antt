@@ -6,4 +6,4 @@ use Rattle.rules_subject.proofs.attributes.organization_and_state.Goals as goal
 
 pub returns : goal.returns
 unfolding organization_rows judged_in row_of
-returns c = c.judge_one.ensures ⋙ c.judge_within.ensures ⋙ c.judge_one-2.ensures ⋙ c.judge_within-2.ensures
+returns c = c.judge_one.ensures ⋙ c.judge_each.ensures ⋙ c.judge_one-2.ensures ⋙ c.judge_each-2.ensures

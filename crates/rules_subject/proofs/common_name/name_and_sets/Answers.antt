@@ -11,8 +11,8 @@ unfolding name_rows judged_in row_of
 returns c =
     let a = c.args in
     let v = a.v in
-    let cn = c.first_within-cn.result in
+    let cn = c.first-cn.result in
     let bad = is_unnamed a.s.now cn v.element in
     let first = by_rows (puts_asked a.p 120 v.good bad cn) (rw (c.is_unnamed-unnamed.ensures, c.holds.ensures) at c.judge.ensures) in
-    let put = rw c.first_within-cn.ensures at (rw (good_at v bad cn) at first ⋙ c.judge_each.ensures ⋙ c.judge_within.ensures) in
+    let put = rw c.first-cn.ensures at (rw (good_at v bad cn) at first ⋙ c.judge_each.ensures ⋙ c.judge_each-2.ensures) in
     by_standing a.p v (name_rows a.s.now a.name) (λ t. rw t at put) (λ t. rw t at put) (λ t. rw t at put)

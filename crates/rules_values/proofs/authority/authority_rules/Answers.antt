@@ -15,7 +15,7 @@ returns c =
     let last-put = rw c.is_last_authority-last.ensures at c.judge_value.ensures in
     let signs-put = rw c.signs_for_authority-signs.ensures at c.judge_value-2.ensures in
     let entries-put = c.judge_items.ensures in
-    let names-put = c.judge_inner.ensures in
+    let names-put = c.judge_items-2.ensures in
     by_standing a.p a.constraints (λ e. 421 for subordinate ⦂ rule421 s e ∷ []) (λ t. rw t at last-put) (λ t. rw t at last-put) (λ t. rw t at last-put)
     ⋙ by_standing a.p a.usage (λ e. 422 for subordinate ⦂ rule422 s e ∷ []) (λ t. rw t at signs-put) (λ t. rw t at signs-put) (λ t. rw t at signs-put)
     ⋙ by_standing a.p a.access (λ e. 423 for subordinate ⦂ rule423 s e ∷ []) (λ t. rw t at entries-put) (λ t. rw t at entries-put) (λ t. rw t at entries-put)

@@ -9,5 +9,5 @@ pub returns : goal.returns
 unfolding point_rows judged_in row_of
 returns c =
     let a = c.args in
-    let put = rw c.none_within-lacking.ensures at (c.judge_value.ensures ⋙ c.judge_items.ensures) in
+    let put = rw c.none_of-lacking.ensures at (c.judge_value.ensures ⋙ c.judge_items.ensures) in
     by_standing a.p a.v (point_rows a.s.now) (λ t. rw t at put) (λ t. rw t at put) (λ t. rw t at put)

@@ -10,5 +10,5 @@ unfolding policy_rows judged_in row_of
 returns c =
     let a = c.args in
     let put = rw (c.none_of-forum.ensures, c.none_of-federal.ensures) at
-    (c.judge_value.ensures ⋙ c.judge_value-2.ensures ⋙ c.judge_inner.ensures) in
+    (c.judge_value.ensures ⋙ c.judge_value-2.ensures ⋙ c.judge_items.ensures) in
     by_standing a.p a.v (policy_rows a.p a.s.now) (λ t. rw t at put) (λ t. rw t at put) (λ t. rw t at put)

@@ -1,6 +1,6 @@
 use Rattle.der.proofs.Laws.Searching.{nearer}
 use Rattle.report.proofs.Laws.Loops.{turn_start, turn_next, turn_end, each_gathered}
-use Rattle.forms.proofs.loops.each_behind.Goals as goal
+use Rattle.forms.proofs.loops.each_among.Goals as goal
 
 pub loop-at-smaller : goal.loop-at-smaller
 loop-at-smaller c = nearer _ _ _ _ c.loop-at-test.true c.head_at-item.ensures

@@ -1,10 +1,10 @@
--- `forms::firsts::first` meets its contract. Assumes nothing.
+-- `forms::firsts::first_among` meets its contract. Assumes nothing.
 use borrow.Author.Tests.{tests}
 use Rattle.std.proofs.Common.{rules}
 use Rattle.std.proofs.lemmas.Iterator.Search.{find_from_yields_List}
 use Rattle.forms.specs.Kinds.{of_kind}
 use Rattle.der.proofs.Laws.Chains.{walked, found}
-use Rattle.forms.proofs.firsts.first.Goals as goal
+use Rattle.forms.proofs.firsts.first_among.Goals as goal
 
 pub returns : goal.returns
 returns c =
