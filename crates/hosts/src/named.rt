@@ -2,7 +2,7 @@
 ghost use Rattle.std.specs.Prelude.{◌≡◌};
 ghost use Rattle.octets.specs.Octets.{octets_from};
 ghost use Rattle.der.specs.Header.{children_of};
-ghost use Rattle.hosts.specs.Names.{is_dns_name, is_named, some_named};
+ghost use Rattle.hosts.specs.Names.{is_dns_name, some_named};
 
 use der::Head;
 
@@ -14,21 +14,31 @@ pub fn is_dns_name(h: Head) -> bool
     tag == 130
 }
 
-// Whether the n octets from a on are, ASCII case ignored, the contents of a name that is a dNSName.
-fn is_named(s: &[u8], a: usize, n: usize, name: Head) -> bool
-    ensures { result ≡ is_named s.now (octets_from s.now a n) name }
-{
-    let body = name.body;
-    if is_dns_name(name) & (octets::minus(name.end, body) == n) {
-        return octets::same_ignoring_case(s, a, s, body, n);
-    }
-    false
-}
-
 // Whether the n octets from a on are, ASCII case ignored, the contents of at least one dNSName among the names
-// from `at` to `end`. The names are left at the first match.
+// from `at` to `end`. The names are left at the first match, and a name at its first mismatch.
 pub fn some_same(s: &[u8], a: usize, n: usize, at: usize, end: usize) -> bool
     ensures { result ≡ some_named s.now (octets_from s.now a n) (children_of s.now at end) }
 {
-    der::children_of(s, at, end).any(|name| is_named(s, a, n, name))
+    // Labels, and no chain: the form that document 01 names (docs/STATEMENTS.md).
+    let mut found = false;
+    'names: for name in der::children_of(s, at, end) {
+        let body = name.body;
+        let mut k = 0;
+        if !((name.tag == 130) & (octets::minus(name.end, body) == n)) {
+            continue 'names;
+        }
+        loop {
+            if k == n {
+                found = true;
+                break 'names;
+            }
+            let x = octets::lower_case(octets::octet_past(s, a, k));
+            let y = octets::lower_case(octets::octet_past(s, body, k));
+            if x != y {
+                continue 'names;
+            }
+            k += 1;
+        }
+    }
+    found
 }
