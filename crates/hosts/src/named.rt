@@ -15,11 +15,11 @@ pub fn is_dns_name(h: Head) -> bool
 }
 
 // Whether the n octets from a on are, ASCII case ignored, the contents of at least one dNSName among the names
-// from `at` to `end`. The names are left at the first match, and a name at its first mismatch. (Labels, and not a chain:
-// document 01's "Forms" wants them left so.)
+// from `at` to `end`. The names are left at the first match, and a name at its first mismatch.
 pub fn some_same(s: &[u8], a: usize, n: usize, at: usize, end: usize) -> bool
     ensures { result ≡ some_named s.now (octets_from s.now a n) (children_of s.now at end) }
 {
+    // Labels, and no chain: the form that document 01 names (docs/STATEMENTS.md).
     let mut found = false;
     'names: for name in der::children_of(s, at, end) {
         let body = name.body;
