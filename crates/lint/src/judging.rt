@@ -29,8 +29,7 @@ fn by_verdict(p: Profile, side: Side, verdict: Verdict) -> Result<Profile, Refus
 fn judge_side(p: Profile, side: Side, s: &[u8]) -> Result<Profile, Refusal>
     ensures { result ≡ side_judgement p side s.now }
 {
-    let found = der::check_der(s);
-    match found {
+    match der::check_der(s) {
         Soundness::Sound => by_verdict(p, side, asn::check_certificate(s)),
         Soundness::Unsound(place) => Err(Refusal::Unsound(side, place)),
         Soundness::Unordered(place) => Err(Refusal::Unordered(side, place)),
@@ -46,7 +45,8 @@ fn judge_both(p: Profile, certificate: &[u8], issuer: &[u8]) -> Result<Profile, 
     judge_side(p, Side::Issuer, issuer)
 }
 
-// Refusals 1, 2 and 3, which the deck's writer gives too, or a profile to go on for: of a certificate and an issuer of so many octets.
+// Refusals 1, 2 and 3, which the deck's writer gives too, or a profile to go on for: of a certificate and an issuer of so
+// many octets.
 #[tactic(auto, unfolding(crate::specs::Judging::admission_of))]
 pub fn admit(certificate: usize, issuer: usize, profile: u8) -> Result<Profile, Inadmissible>
     ensures { result ≡ admission_of certificate issuer profile }

@@ -56,6 +56,8 @@ fn side_number(side: Side) -> usize
     }
 }
 
+// Functions and no impls of `From`, here and below: `answer_values` could be none, since `Result` and `Values` are both of
+// other crates, and it and its parts have one form.
 pub fn inadmissible_values(r: Inadmissible) -> Values
     ensures { result ≡ inadmissible_values r }
 {

@@ -12,6 +12,7 @@ pub enum Profile {
 }
 
 // The profile that a number asks for.
+#[tactic(auto, unfolding(crate::specs::Fields::asked_of))]
 pub fn profile_of(number: u8) -> Option<Profile>
     ensures { result ≡ asked_of number }
 {

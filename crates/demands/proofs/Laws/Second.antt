@@ -38,7 +38,7 @@ accepted_for certificate issuer profile room n told = go (judgement_of certifica
   where
     go : (j : Result Profile Refusal) → judgement_of certificate issuer profile ≡ j → answer_by j certificate issuer room ≡ Ok n
         → (p : Profile) × (judgement_of certificate issuer profile ≡ Ok p)
-    go (Err r) q e = let z : ◌≡◌ {A = ℕ} 0 1 = cc e in absurd (omega arith)
+    go (Err r) q e = cc
     go (Ok p) q e = (p, q)
 
 -- no entries

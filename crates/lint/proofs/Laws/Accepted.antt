@@ -8,7 +8,6 @@ use mathlib.Core.Path.{◌≡◌, refl, ap, subst}
 use mathlib.Core.List.{List}
 use mathlib.Core.Bool.{Bool, true, false, cond}
 use Prim.Native.Nat.{ℕ, ◌≤◌}
-use native.Mathlib.Omega.{arith}
 use lib.Dec.{leb}
 use lib.ListN.{length}
 use borrow.Author.Tests.{leb-true}
@@ -31,19 +30,11 @@ use Rattle.asn.specs.declared.fitting.Verdict.TheVariants.{Stranger, Fits, Wrong
 use Rattle.profiles.specs.Fields.{asked_of}
 use Rattle.profiles.specs.declared.fields.Profile.{Profile}
 
--- what is refused is not accepted
-refused : (r : Refusal) (p : Profile) → Err r ≡ Ok p → ⊥
-refused r p e =
-    let z : ◌≡◌ {A = ℕ} 0 1 = cc e in
-    omega arith
-
 -- a test that refuses if it fails
 passed : (b : Bool) (a : Result Profile Inadmissible) (r : Inadmissible) (p : Profile) → cond b a (Err r) ≡ Ok p
     → (b ≡ true) × (a ≡ Ok p)
 passed true a r p e = (refl, e)
-passed false a r p e =
-    let z : ◌≡◌ {A = ℕ} 0 1 = cc e in
-    absurd (omega arith)
+passed false a r p e = cc
 
 sized : (n : ℕ) → side_length_ok n ≡ true → (1 ≤ n) × (n ≤ 8192)
 sized n t = (leb-true 1 n (and_l (leb 1 n) (leb n 8192) t), leb-true n 8192 (and_r (leb 1 n) (leb n 8192) t))
@@ -59,27 +50,27 @@ module _ (certificate issuer profile : ℕ) (p : Profile) (e : admission_of cert
 
 verdict_fits : (q p : Profile) (side : Side) (v : Verdict) → by_verdict q side v ≡ Ok p → v ≡ Fits
 verdict_fits q p side Fits e = refl
-verdict_fits q p side (Wrong place) e = absurd (refused _ p e)
-verdict_fits q p side Stranger e = absurd (refused _ p e)
+verdict_fits q p side (Wrong place) e = cc
+verdict_fits q p side Stranger e = cc
 
 sound_fits : (q p : Profile) (side : Side) (d : Soundness) (v : Verdict) → by_soundness q side d v ≡ Ok p → v ≡ Fits
 sound_fits q p side Sound v e = verdict_fits q p side v e
-sound_fits q p side (Unsound place) v e = absurd (refused _ p e)
-sound_fits q p side (Unordered place) v e = absurd (refused _ p e)
+sound_fits q p side (Unsound place) v e = cc
+sound_fits q p side (Unordered place) v e = cc
 
 side_fits : (q p : Profile) (side : Side) (s : List ℕ) → side_judgement q side s ≡ Ok p → certificate_verdict s ≡ Fits
 unfolding side_judgement
 side_fits q p side s e = sound_fits q p side (der_soundness s) (certificate_verdict s) e
 
 first_accepts : (a b : Result Profile Refusal) (p : Profile) → result_and a b ≡ Ok p → (q : Profile) × (a ≡ Ok q)
-first_accepts (Err r) b p e = absurd (refused r p e)
+first_accepts (Err r) b p e = cc
 first_accepts (Ok q) b p e = (q, refl)
 
 -- what is accepted was admitted, and then neither side was refused
 admitted : (a : Result Profile Inadmissible) (p : Profile) (s issuer : List ℕ) → once_admitted a s issuer ≡ Ok p
     → (q : Profile) × (a ≡ Ok q) × (certificate_verdict s ≡ Fits)
 unfolding both_sides
-admitted (Err r) p s issuer e = absurd (refused _ p e)
+admitted (Err r) p s issuer e = cc
 admitted (Ok q) p s issuer e =
     let f = first_accepts (side_judgement q Certificate s) (side_judgement q Issuer issuer) p e in
     (q, refl, side_fits q f.0 Certificate s f.1)

@@ -4,7 +4,6 @@
 use mathlib.Core.Path.{◌≡◌, refl}
 use mathlib.Core.List.{List}
 use Prim.Native.Nat.{ℕ}
-use native.Mathlib.Omega.{arith}
 use lib.ListN.{length}
 use Rattle.std.specs.Prelude.{Result, Ok, Err}
 use Rattle.std.specs.Result.{result_and}
@@ -19,21 +18,16 @@ use Rattle.lint.specs.Judging.{by_soundness, side_judgement, both_sides, admissi
 use Rattle.lint.specs.declared.reasons.Refusal.{Refusal}
 use Rattle.lint.specs.declared.reasons.Side.TheVariants.{Certificate}
 
-refused : (r : Refusal) (p : Profile) → Err r ≡ Ok p → ⊥
-refused r p e =
-    let z : ◌≡◌ {A = ℕ} 0 1 = cc e in
-    omega arith
-
 module _ (p : Profile) where
   side_sound : (q : Profile) (d : Soundness) (v : Verdict) (other : Result Profile Refusal)
       → result_and (by_soundness q Certificate d v) other ≡ Ok p → d ≡ Sound
   side_sound q Sound v other e = refl
-  side_sound q (Unsound place) v other e = absurd (refused _ p e)
-  side_sound q (Unordered place) v other e = absurd (refused _ p e)
+  side_sound q (Unsound place) v other e = cc
+  side_sound q (Unordered place) v other e = cc
 
   once_sound : (admission : Result Profile Inadmissible) (s issuer : List ℕ) → once_admitted admission s issuer ≡ Ok p → der_soundness s ≡ Sound
   unfolding both_sides side_judgement
-  once_sound (Err r) s issuer e = absurd (refused _ p e)
+  once_sound (Err r) s issuer e = cc
   once_sound (Ok q) s issuer e = side_sound q (der_soundness s) (certificate_verdict s) _ e
 
   pub accepted_sound : (s issuer : List ℕ) (profile : ℕ) → judgement_of s issuer profile ≡ Ok p → der_soundness s ≡ Sound

@@ -4,7 +4,6 @@
 use mathlib.Core.Path.{◌≡◌, refl, sym, ap, ◌∙◌, subst}
 use mathlib.Core.List.{List}
 use Prim.Native.Nat.{ℕ}
-use native.Mathlib.Omega.{arith}
 use Rattle.std.specs.Prelude.{Result, Ok, Err}
 use Rattle.places.specs.Statement.{AtElements, Places}
 use Rattle.profiles.specs.declared.fields.Profile.{Profile}
@@ -36,7 +35,7 @@ module _ (s issuer : List ℕ) (profile : ℕ) where
   module _ (room : List ℕ) (n : ℕ) where
     answered : (j : Result Profile Refusal) → judgement_of s issuer profile ≡ j → answer_by j s issuer room ≡ Ok n
         → AtElements s (decode n (room_by j s issuer room))
-    answered (Err r) q e = let z : ◌≡◌ {A = ℕ} 0 1 = cc e in absurd (omega arith)
+    answered (Err r) q e = cc
     answered (Ok p) q e =
         let c = told_report (findings p s issuer) room n e in
         let back = ap (λ (m : ℕ). decode m (filled (findings p s issuer) room)) c.1 ∙ findings_back p s issuer profile room q c.0 in

@@ -8,7 +8,6 @@ use mathlib.Core.Bool.{Bool, true, false, cond}
 use mathlib.Core.List.{List}
 use mathlib.Core.Logic.{◌≢◌}
 use Prim.Native.Nat.{ℕ, ◌*◌, ◌≤◌}
-use native.Mathlib.Omega.{arith}
 use lib.Dec.{eqb, leb}
 use lib.ListN.{length}
 use borrow.Author.Tests.{eqb-false, leb-true}
@@ -25,12 +24,6 @@ use Rattle.blocks.specs.Record.{record_of, parts}
 use Rattle.writer.proofs.Laws.Values.{write_values_lem}
 use Rattle.lint.specs.declared.reasons.Inadmissible as Reason
 
--- what is refused is no number of blocks
-refused : (r : NotWritten) (count : ℕ) → Err r ≡ Ok count → ⊥
-refused r count e =
-    let z : ◌≡◌ {A = ℕ} 0 1 = cc e in
-    omega arith
-
 -- no refusal applies, and the count is that of the parts
 pub record Taken (admission : Result Profile Reason.Inadmissible) (number count room all : ℕ) : Type 0 where
   pub for : Profile
@@ -46,15 +39,15 @@ room_taken count all room = go (leb (512 * all) room) refl
     go true t e =
         let same : count ≡ all = cc e in
         (rw same (leb-true (512 * all) room t), same)
-    go false t e = absurd (refused NoRoom count e)
+    go false t e = cc
 
 admission_taken : (admission : Result Profile Reason.Inadmissible) (number count room all : ℕ) → by_admission admission number all room ≡ Ok count
     → Taken admission number count room all
-admission_taken (Err r) number count room all e = absurd (refused (Inadmissible r) count e)
+admission_taken (Err r) number count room all e = cc
 admission_taken (Ok p) number count room all e = go (eqb number 0) refl e
   where
     go : (b : Bool) → eqb number 0 ≡ b → cond b (Err NoNumber) (by_room all room) ≡ Ok count → Taken (Ok p) number count room all
-    go true t e = absurd (refused NoNumber count e)
+    go true t e = cc
     go false t e =
         let f = room_taken count all room e in
         record { for = p; admitted = refl; numbered = eqb-false number 0 t; fitting = f.0; counted = f.1 }
