@@ -14,7 +14,7 @@ pub fn octet(s: &[u8], i: usize) -> u8
 pub fn octet_past(s: &[u8], i: usize, k: usize) -> u8
     ensures { result ≡ octet_at s.now (i + k) }
 {
-    octet(s, i.saturating_add(k))
+    if i < s.len() { octet(&s[i..], k) } else { 0 }
 }
 
 // An octet to count with.
