@@ -7,7 +7,7 @@ fn push(n: usize, b: u8) -> usize
     ensures { (result ≡ cond (ltb n (2 ^ 24)) (256 * n + b) (2 ^ 32)) × (result ≤ 2 ^ 32) }
 {
     if n < 16777216 {
-        return 256 * n + octets::wide(b);
+        return 256 * n + usize::from(b);
     }
     4294967296
 }

@@ -5,5 +5,5 @@ ghost use Rattle.octets.specs.Characters.{is_digit};
 pub fn is_digit(b: u8) -> bool
     ensures { result ≡ is_digit b }
 {
-    (b'0' <= b) & (b <= b'9')
+    b.is_ascii_digit()
 }

@@ -9,10 +9,7 @@ use crate::stretches::all_beside;
 pub fn lower_case(b: u8) -> u8
     ensures { result ≡ lower_case b }
 {
-    if b < b'A' {
-        return b;
-    }
-    if b <= b'Z' { b + 32 } else { b }
+    b.to_ascii_lowercase()
 }
 
 // Whether the n octets from a on in s are those from b on in t.

@@ -28,11 +28,6 @@ impl Place {
     pub fn end(self) -> usize
         ensures { result ≡ end_of self }
     {
-        let start = self.start;
-        let len = self.len;
-        if len <= 18446744073709551615 - start {
-            return start + len;
-        }
-        18446744073709551615
+        self.start.saturating_add(self.len)
     }
 }

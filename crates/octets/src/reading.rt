@@ -7,19 +7,14 @@ ghost use Rattle.octets.specs.Numbers.{number_of, pair_at, largest};
 pub fn octet(s: &[u8], i: usize) -> u8
     ensures { result ≡ octet_at s.now i }
 {
-    if i < s.len() { s[i] } else { 0 }
+    s.get(i).copied().unwrap_or(0)
 }
 
 // The octet k places after i.
 pub fn octet_past(s: &[u8], i: usize, k: usize) -> u8
     ensures { result ≡ octet_at s.now (i + k) }
 {
-    if i < s.len() {
-        if k < s.len() - i {
-            return s[i + k];
-        }
-    }
-    0
+    if i < s.len() { octet(&s[i..], k) } else { 0 }
 }
 
 // An octet to count with.
@@ -33,28 +28,23 @@ pub fn wide(x: u8) -> usize
 pub fn pair(s: &[u8], i: usize) -> usize
     ensures { (result ≡ pair_at s.now i) × (result < 65536) }
 {
-    256 * wide(octet(s, i)) + wide(octet_past(s, i, 1))
+    256 * usize::from(octet(s, i)) + usize::from(octet_past(s, i, 1))
 }
 
 // The number n written on by one octet more, as far as a usize counts.
 fn written_on(n: usize, b: u8) -> usize
     ensures { result ≡ min (256 * n + b) largest }
 {
-    if n < 72057594037927936 {
-        256 * n + wide(b)
-    } else {
-        18446744073709551615
-    }
+    n.saturating_mul(256).saturating_add(usize::from(b))
 }
 
 // The number that n octets say from `skip` places after `at` on, the high one first, as far as a usize counts.
 pub fn number(s: &[u8], at: usize, skip: u8, n: u8) -> usize
     ensures { result ≡ min (number_of (octets_from s.now (at + skip) n)) largest }
 {
-    let from = wide(skip);
-    let count = wide(n);
+    let from = usize::from(skip);
     let mut value = 0;
-    for k in 0..count {
+    for k in 0..usize::from(n) {
         value = written_on(value, octet_past(s, at, from + k));
     }
     value
@@ -64,7 +54,7 @@ pub fn number(s: &[u8], at: usize, skip: u8, n: u8) -> usize
 pub fn minus(a: usize, b: usize) -> usize
     ensures { result ≡ a - b }
 {
-    if b <= a { a - b } else { 0 }
+    a.saturating_sub(b)
 }
 
 // Whether n octets from place a on stay before end.

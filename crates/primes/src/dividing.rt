@@ -49,17 +49,15 @@ fn none_divides(s: &[u8], body: usize, end: usize, primes: &[u16], products: &[u
     requires { rows_ok primes.now products.now ≡ true }
     ensures { result ≡ free_of primes.now (number s.now body end) }
 {
-    let mut k: usize = 0;
     let mut last: u64 = 1;
     let mut r: u64 = 0;
-    while k < primes.len() {
+    for k in 0..primes.len() {
         let m = products[k] as u64;
         r = renew(s, body, end, last, r, m);
         last = m;
         if r % (primes[k] as u64) == 0 {
             return false;
         }
-        k += 1;
     }
     true
 }

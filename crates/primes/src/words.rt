@@ -2,16 +2,10 @@
 ghost use Rattle.std.specs.Prelude.{◌≡◌, ◌+◌, ◌*◌, ◌<◌, ◌^◌};
 ghost use Rattle.primes.specs.Workings.Rows.{word_at};
 
-fn wide64(x: u8) -> u64
-    ensures { (result ≡ x) × (result < 256) }
-{
-    x as u64
-}
-
 fn four(a: u8, b: u8, c: u8, d: u8) -> u64
     ensures { (result ≡ 256 * (256 * (256 * a + b) + c) + d) × (result < 2 ^ 32) }
 {
-    256 * (256 * (256 * wide64(a) + wide64(b)) + wide64(c)) + wide64(d)
+    256 * (256 * (256 * u64::from(a) + u64::from(b)) + u64::from(c)) + u64::from(d)
 }
 
 // The four octets from i on, high octet first.

@@ -39,7 +39,7 @@ fn before_month(leap: bool, month: u8) -> usize
 {
     let mut days = 0;
     for m in 0..month {
-        days += octets::wide(month_length(leap, m));
+        days += usize::from(month_length(leap, m));
     }
     days
 }
@@ -57,14 +57,14 @@ pub fn days(year: u32, month: u8, day: u8) -> usize
     ensures { (result ≡ before_year year + (before_month (leap_year year) month + (day - 1))) × (result < 366 * year + 2 ^ 14) }
 {
     let leap = leap_year(year);
-    before_year(year) + (before_month(leap, month) + octets::minus(octets::wide(day), 1))
+    before_year(year) + (before_month(leap, month) + octets::minus(usize::from(day), 1))
 }
 
 // The seconds of its day before a date.
 pub fn clock(d: Date) -> usize
     ensures { (result ≡ 3600 * d.hour + (60 * d.minute + d.second)) × (result < 2 ^ 20) }
 {
-    3600 * octets::wide(d.hour) + (60 * octets::wide(d.minute) + octets::wide(d.second))
+    3600 * usize::from(d.hour) + (60 * usize::from(d.minute) + usize::from(d.second))
 }
 
 // The seconds from the start of the year 0000.

@@ -29,7 +29,7 @@ fn digits_first(s: &[u8], body: usize, n: usize, digits: usize) -> bool
 fn digits_and_z(s: &[u8], body: usize, n: usize, digits: u8) -> bool
     ensures { result ≡ digits_and_z digits (octets_from s.now body n) }
 {
-    let last = octets::wide(digits);
+    let last = usize::from(digits);
     (n == last + 1) & (digits_first(s, body, n, last) & (content(s, body, n, last) == b'Z'))
 }
 
