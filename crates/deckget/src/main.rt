@@ -14,7 +14,6 @@ ghost use Rattle.retrieval.specs.Fetching.{sides_of};
 ghost use Rattle.deckget.specs.Workings.Outcomes.{WroteAll};
 
 use lint::Side;
-use retrieval::Fetched;
 use std::io::{Print, Read};
 use std::rt::Env;
 
@@ -43,52 +42,39 @@ fn side_space() -> [u8; SIDE]
     [0; SIDE]
 }
 
-// What became of the sides that were asked for.
-#[derive(Clone, Copy)]
-enum Outcome {
-    // they were all written, so many
-    Wrote(usize),
-    // a write failed, and it was said why
-    Failed,
-}
-
 fn write(output: &impl Print, errors: &impl Print, side: &[u8]) -> bool {
     streams::write_out(output, errors, side, b"standard output")
 }
 
-// Writes that side of each record of the number, and answers how many records there are. There is always room for it.
+// Writes that side of each record of the number, and answers how many records there are; nothing where a write failed,
+// and it was said why. There is always room for a side.
 fn write_sides(
     output: &impl Print,
     errors: &impl Print,
     deck: &[u8],
     number: usize,
     side: Side,
-) -> Outcome
+) -> Option<usize>
     ensures { WroteAll (sides_of side number deck.now) result }
 {
     let mut space = side_space();
     let mut position: usize = 0;
     let mut count: usize = 0;
-    loop {
-        let fetched = retrieval::fetch(deck, position, number, side, &mut space);
-        match fetched {
-            Fetched::Octets(n, next) => {
-                if !write(output, errors, &space[..n]) {
-                    return Outcome::Failed;
-                }
-                position = next;
-                count += 1;
-            }
-            Fetched::Nothing => return Outcome::Wrote(count),
-            Fetched::NoRoom => return Outcome::Wrote(count),
+    while let Some(found) = retrieval::fetch(deck, position, number, side, &mut space) {
+        let fetched = found.unwrap();
+        let end = fetched.length;
+        if !write(output, errors, &space[..end]) {
+            return None;
         }
+        position = fetched.next;
+        count += 1;
     }
+    Some(count)
 }
 
 // The same, and says where it is not one side.
 fn get(output: &impl Print, errors: &impl Print, deck: &[u8], number: usize, side: Side) {
-    let outcome = write_sides(output, errors, deck, number, side);
-    if let Outcome::Wrote(count) = outcome {
+    if let Some(count) = write_sides(output, errors, deck, number, side) {
         words::say_count(errors, number, count);
     }
 }

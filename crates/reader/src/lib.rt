@@ -11,4 +11,4 @@ mod taking;
 pub use counting::{Counts, block_count, tally};
 pub use finding::{Found, Loss, find};
 pub use stepping::{Item, Record, item_blocks, step};
-pub use taking::{Layout, Taken, take_record};
+pub use taking::{Layout, NotTaken, take_record};

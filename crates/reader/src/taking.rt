@@ -20,9 +20,9 @@ pub struct Layout {
     pub certificate: usize,
 }
 
+// Why no record was put into a buffer.
 #[derive(Clone, Copy)]
-pub enum Taken {
-    Record(Layout),
+pub enum NotTaken {
     // the buffer has fewer octets than the record
     NoRoom,
     // no record starts at this block
@@ -45,18 +45,14 @@ fn lay_out(deck: &[u8], position: usize, number: usize, n: usize, buffer: &mut [
 }
 
 // The record that starts at the block, at the front of the buffer; or nothing changed.
-pub fn take_record(deck: &[u8], position: usize, buffer: &mut [u8]) -> Taken
+pub fn take_record(deck: &[u8], position: usize, buffer: &mut [u8]) -> Result<Layout, NotTaken>
     ensures { TakenRecord deck.now position buffer.old result buffer.new }
 {
-    let found = find(deck, position);
-    match found {
-        Found::Record(number, n) => {
-            if buffer.len() < n {
-                return Taken::NoRoom;
-            }
-            Taken::Record(lay_out(deck, position, number, n, buffer))
-        }
-        Found::Lost(_) => Taken::NoRecord,
-        Found::End => Taken::NoRecord,
+    let Found::Record(number, n) = find(deck, position) else {
+        return Err(NotTaken::NoRecord);
+    };
+    if buffer.len() < n {
+        return Err(NotTaken::NoRoom);
     }
+    Ok(lay_out(deck, position, number, n, buffer))
 }

@@ -1,5 +1,5 @@
 -- Demands 2 and 3 on decks, each in one record.
-use Rattle.std.specs.Prelude.{List, ◌++◌, ◌≡◌, ℕ, ◌+◌, ◌*◌, ◌≤◌, ◌<◌, ◌^◌, length, take, drop, Ok}
+use Rattle.std.specs.Prelude.{List, ◌++◌, ◌≡◌, ℕ, ◌+◌, ◌*◌, ◌≤◌, ◌<◌, ◌^◌, length, take, drop, Ok, Result}
 use Rattle.recovery.specs.Submitted.{Submitted, submitted_octets, AllWritable, written}
 use Rattle.recovery.specs.Spoiling.{Spoiled}
 use Rattle.recovery.specs.Expected.{handed_out, expected, all_handed_out, OneBehindTheOther}
@@ -12,14 +12,14 @@ use Rattle.reader.specs.Stepping.{Stepped}
 use Rattle.reader.specs.Taking.{TakenRecord}
 use Rattle.reader.specs.Walking.{walk}
 use Rattle.reader.specs.declared.stepping.Item.{Item}
-use Rattle.reader.specs.declared.taking.Taken.{Taken}
+use Rattle.reader.specs.declared.taking.Layout.{Layout}
+use Rattle.reader.specs.declared.taking.NotTaken.{NotTaken}
 use Rattle.reader.specs.declared.stepping.Item.TheVariants as Items
-use Rattle.reader.specs.declared.taking.Taken.TheVariants as Takens
 
 -- what is taken of a submitted record into a buffer: its number and lengths, and in the buffer its profile and both certificates, octet for octet,
 -- before the rest of the buffer as it was
-pub record AsItWas (number : ℕ) (s : Submitted) (buffer : List ℕ) (r : Taken) (last : List ℕ) : Type 0 where
-  pub told : r ≡ Takens.Record (record { number = number; length = length (submitted_octets s); certificate = length s.certificate })
+pub record AsItWas (number : ℕ) (s : Submitted) (buffer : List ℕ) (r : Result Layout NotTaken) (last : List ℕ) : Type 0 where
+  pub told : r ≡ Ok (record { number = number; length = length (submitted_octets s); certificate = length s.certificate })
   pub profile : octet_at last 0 ≡ s.profile
   pub certificate : take (length s.certificate) (drop 3 last) ≡ s.certificate
   pub issuer : take (length s.issuer) (drop (3 + length s.certificate) last) ≡ s.issuer
@@ -30,7 +30,7 @@ pub record AsItWas (number : ℕ) (s : Submitted) (buffer : List ℕ) (r : Taken
 pub record ReadAgain (number : ℕ) (s : Submitted) (deck : List ℕ) (position : ℕ) : Type 0 where
   pub answered : (lent last : List ℕ) (r : Item) → Stepped deck position lent r last
       → (r ≡ Items.Record (handed_out lent number s)) × (last ≡ room_of s.certificate s.issuer s.profile lent)
-  pub taken : (buffer last : List ℕ) (r : Taken) → 3 + length s.certificate + length s.issuer ≤ length buffer
+  pub taken : (buffer last : List ℕ) (r : Result Layout NotTaken) → 3 + length s.certificate + length s.issuer ≤ length buffer
       → TakenRecord deck position buffer r last → AsItWas number s buffer r last
 
 -- S6, "a record written to the deck reads back as it was": in a deck where what the writer left in its room stands behind any whole blocks and before

@@ -2,18 +2,20 @@
 --     counted_none     at the start nothing is counted
 --     counted_next     a side that was fetched is counted
 --     counted_all      where nothing is left, all are counted
+--     has_room         there is room for a side that was found
 -- Assumes nothing.
 use mathlib.Core.List.{List, [], ◌∷◌}
-use mathlib.Core.Path.{◌≡◌, ap}
-use Prim.Native.Nat.{ℕ, ◌+◌}
+use mathlib.Core.Path.{◌≡◌, refl, ap}
+use Prim.Native.Nat.{ℕ, ◌+◌, ◌≤◌}
 use native.Mathlib.Omega.{arith}
+use Rattle.std.specs.Prelude.{Option, Some, None, Result, Ok, Err, IsOk}
 use lib.ListN.{length, take}
 use Rattle.lint.specs.declared.reasons.Side.{Side}
 use Rattle.retrieval.specs.Fetching.{sides_of}
 use Rattle.retrieval.specs.Fetches.{FetchedFrom, Fetches, nothing, another}
 use Rattle.retrieval.specs.declared.Fetched.{Fetched}
-use Rattle.retrieval.specs.declared.Fetched.TheVariants.{Octets, Nothing}
-use Rattle.retrieval.proofs.Laws.Fetches.{fetches_all}
+use Rattle.retrieval.specs.declared.NoRoom.{NoRoom}
+use Rattle.retrieval.proofs.Laws.Fetches.{room_enough, fetches_all}
 
 module _ (deck : List ℕ) (number : ℕ) (side : Side) where
   abbrev pub Counted : ℕ → ℕ → Type 0
@@ -24,16 +26,22 @@ module _ (deck : List ℕ) (number : ℕ) (side : Side) where
       let all : length later ≡ length (sides_of side number deck) = ap length (fetches_all deck number side later f) in
       omega arith
 
-  module _ (position count : ℕ) (out last : List ℕ) (r : Fetched) (h : FetchedFrom deck position number side out r last) (k : Counted position count)
-    where
-      pub counted_next : (n next : ℕ) → r ≡ Octets n next → Counted next (count + 1)
-      counted_next n next e later f =
-          let g : FetchedFrom deck position number side out (Octets n next) last = rw e at h in
-          let all : count + length (take n last ∷ later) ≡ length (sides_of side number deck) = k (take n last ∷ later) (another n next out last g f) in
-          omega arith
+  module _ (position count : ℕ) (out last : List ℕ) (r : Option (Result Fetched NoRoom)) (h : FetchedFrom deck position number side out r last)
+      (k : Counted position count) where
+    pub counted_next : (fetched : Fetched) → r ≡ Some (Ok fetched) → Counted fetched.next (count + 1)
+    counted_next fetched e later f =
+        let g : FetchedFrom deck position number side out (Some (Ok fetched)) last = rw e at h in
+        let all : count + length (take fetched.length last ∷ later) ≡ length (sides_of side number deck) =
+        k (take fetched.length last ∷ later) (another fetched out last g f) in
+        omega arith
 
-      pub counted_all : r ≡ Nothing → count ≡ length (sides_of side number deck)
-      counted_all e =
-          let g : FetchedFrom deck position number side out Nothing last = rw e at h in
-          let all : count + 0 ≡ length (sides_of side number deck) = k [] (nothing out last g) in
-          omega arith
+    pub counted_all : r ≡ None → count ≡ length (sides_of side number deck)
+    counted_all e =
+        let g : FetchedFrom deck position number side out None last = rw e at h in
+        let all : count + 0 ≡ length (sides_of side number deck) = k [] (nothing out last g) in
+        omega arith
+
+  pub has_room : (position : ℕ) (out last : List ℕ) (r : Option (Result Fetched NoRoom)) (found : Result Fetched NoRoom) → 16384 ≤ length out
+      → FetchedFrom deck position number side out r last → r ≡ Some found → IsOk found
+  has_room position out last r (Ok fetched) room h e = refl
+  has_room position out last r (Err x) room h e = absurd (room_enough deck number side position out last r room h e)

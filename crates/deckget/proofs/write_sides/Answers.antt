@@ -1,29 +1,31 @@
 -- A fetch goes forward in the deck and is counted, and there is always room for it.
-use Rattle.std.proofs.Common.{◌≤◌, length, arith}
-use Rattle.retrieval.proofs.Laws.Fetches.{goes_forward, room_enough}
-use Rattle.deckget.proofs.Laws.Counting.{counted_none, counted_next, counted_all}
+use Rattle.std.proofs.Common.{arith, ap, ◌∙◌}
+use Rattle.std.specs.Prelude.{Some}
+use Rattle.retrieval.proofs.Laws.Fetches.{goes_forward}
+use Rattle.deckget.proofs.Laws.Counting.{counted_none, counted_next, counted_all, has_room}
 use Rattle.deckget.proofs.write_sides.Goals as goal
 
-pub loop-n-init : goal.loop-n-init
-loop-n-init g c = (c.side_space-space.ensures, (omega arith, (omega arith, counted_none _ _ _)))
+pub loop-found-init : goal.loop-found-init
+loop-found-init g c = (c.side_space-space.ensures, (omega arith, (omega arith, counted_none _ _ _)))
 
-pub loop-n-smaller : goal.loop-n-smaller
-loop-n-smaller g c = omega (arith, goes_forward _ _ _ _ _ _ _ _ _ c.in-Octets.is c.fetch-fetched.ensures)
+pub unwrap-fetched-requires : goal.unwrap-fetched-requires
+unwrap-fetched-requires g c = has_room _ _ _ _ _ _ _ _ (omega (arith, c.loop-found.invariant.0)) c.fetch.ensures c.in-Some.is
 
-pub loop-n-preserved : goal.loop-n-preserved
-loop-n-preserved g c =
-    let forward = goes_forward _ _ _ _ _ _ _ _ _ c.in-Octets.is c.fetch-fetched.ensures in (
-      omega (arith, c.loop-n.invariant.0, c.fetch-fetched.auto.out),
+pub loop-found-smaller : goal.loop-found-smaller
+loop-found-smaller g c =
+    let told = c.in-Some.is ∙ ap Some c.unwrap-fetched.ensures in
+    omega (arith, goes_forward _ _ _ _ _ _ _ _ told c.fetch.ensures)
+
+pub loop-found-preserved : goal.loop-found-preserved
+loop-found-preserved g c =
+    let told = c.in-Some.is ∙ ap Some c.unwrap-fetched.ensures in
+    let forward = goes_forward _ _ _ _ _ _ _ _ told c.fetch.ensures in (
+      omega (arith, c.loop-found.invariant.0, c.fetch.auto.out),
       (
-        omega (arith, forward, c.loop-n.invariant.1.0),
-        (forward.1, counted_next _ _ _ _ _ _ _ _ c.fetch-fetched.ensures c.loop-n.invariant.1.1.1 _ _ c.in-Octets.is),
+        omega (arith, forward, c.loop-found.invariant.1.0),
+        (forward.1, counted_next _ _ _ _ _ _ _ _ c.fetch.ensures c.loop-found.invariant.1.1.1 _ told),
       ),
     )
 
-pub returns-in-Nothing : goal.returns-in-Nothing
-returns-in-Nothing g c = counted_all _ _ _ _ _ _ _ _ c.fetch-fetched.ensures c.loop-n.invariant.1.1.1 c.in-Nothing.is
-
-pub returns-in-NoRoom : goal.returns-in-NoRoom
-returns-in-NoRoom g c =
-    let room : 16384 ≤ length c.loop-n.space = omega (arith, c.loop-n.invariant.0) in
-    absurd (room_enough _ _ _ _ _ _ _ room c.fetch-fetched.ensures c.in-NoRoom.is)
+pub returns : goal.returns
+returns g c = counted_all _ _ _ _ _ _ _ _ c.fetch.ensures c.loop-found.invariant.1.1.1 c.in_default.is

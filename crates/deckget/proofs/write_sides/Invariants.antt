@@ -4,9 +4,9 @@ use Rattle.std.proofs.Common.{◌≡◌, ◌*◌, ◌-◌, ◌≤◌, length}
 use Rattle.deckget.proofs.Laws.Counting.{Counted}
 use Rattle.deckget.proofs.write_sides.Given as goal
 
-abbrev pub invariant-loop-n : goal.invariant-loop-n
-invariant-loop-n g l =
+abbrev pub invariant-loop-found : goal.invariant-loop-found
+invariant-loop-found g l =
     (16384 ≡ length l.space) × ((l.count ≤ l.position) × ((512 * l.position ≤ length l.deck) × Counted l.deck l.number l.side l.position l.count))
 
-abbrev pub decreases-loop-n : goal.decreases-loop-n
-decreases-loop-n g l = length l.deck - 512 * l.position
+abbrev pub decreases-loop-found : goal.decreases-loop-found
+decreases-loop-found g l = length l.deck - 512 * l.position

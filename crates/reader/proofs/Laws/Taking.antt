@@ -4,7 +4,7 @@
 --     laid_out                               a record's octets on the desk, copied to the front of a buffer
 --     event_record, event_none               what stands at a block where a record is found, and where none is
 --     start_long, start_cut                  of a record that starts: how many octets, and that the certificate is inside
---     takes_record, takes_none, takes_lost, takes_end     a record taken, by what is found
+--     takes_record, takes_none, takes_nothing     a record taken, by what is found
 --     taken_event                            where a record stands and there is room, what is said of it and where its octets are
 --     one_taking                             S11: any two answers that the contract allows coincide, and so do the buffers
 -- Assumes nothing.
@@ -14,6 +14,7 @@ use mathlib.Core.Logic.{⊎_elim}
 use mathlib.Core.List.{List, [], ◌++◌}
 use Prim.Native.Nat.{ℕ, ◌+◌, ◌*◌, ◌≤◌, ◌<◌}
 use native.Mathlib.Omega.{arith}
+use Rattle.std.specs.Prelude.{Result, Ok, Err}
 use lib.ListN.{length, take, drop}
 use lib.Seq.{length-take-le}
 use borrow.Author.Tests.{le-leb, lt-leb}
@@ -23,9 +24,9 @@ use Rattle.reader.specs.Finding.{found_at}
 use Rattle.reader.specs.Stepping.{event_at}
 use Rattle.reader.specs.Taking.{in_front_of, layout_of, taken_of, buffer_taken, TakenRecord}
 use Rattle.reader.specs.Workings.Desk.{LaidOut}
-use Rattle.reader.specs.declared.finding.Loss.{Loss}
 use Rattle.reader.specs.declared.taking.Layout.{Layout}
-use Rattle.reader.specs.declared.taking.Taken.{Taken}
+use Rattle.reader.specs.declared.taking.NotTaken.{NotTaken}
+use Rattle.reader.specs.declared.taking.NotTaken.TheVariants.{NoRoom, NoRecord}
 use Rattle.octets.specs.Numbers.{pair_at}
 use Rattle.octets.specs.Copying.{copied}
 use Rattle.octets.proofs.Laws.Copying.{copied_paste}
@@ -37,7 +38,6 @@ use Rattle.reader.proofs.Laws.Found.{Start, found_record}
 use Rattle.reader.proofs.Laws.Stepping.{cut_on_desk}
 use Rattle.reader.proofs.Laws.Passing.{record_long}
 use Rattle.reader.specs.declared.finding.Found.TheVariants as Founds
-use Rattle.reader.specs.declared.taking.Taken.TheVariants as Takens
 
 module _ (p buffer : List ℕ) where
   pub front_room : length p ≤ length buffer → in_front_of p buffer ≡ p ++ drop (length p) buffer
@@ -104,7 +104,7 @@ module _ (d : List ℕ) (i number n : ℕ) (start : Start d i number n) where
 -- ---- by what is found
 
 module _ (d : List ℕ) (i : ℕ) (buffer : List ℕ) where
-  by_event : (e : Event) → event_at d i ≡ e → (r : Taken) (last : List ℕ) → r ≡ taken_of (length buffer) e → last ≡ buffer_taken buffer e
+  by_event : (e : Event) → event_at d i ≡ e → (r : Result Layout NotTaken) (last : List ℕ) → r ≡ taken_of (length buffer) e → last ≡ buffer_taken buffer e
       → TakenRecord d i buffer r last
   by_event e h r last f g = record { told = rw h f; bytes = rw h g }
 
@@ -112,27 +112,21 @@ module _ (d : List ℕ) (i : ℕ) (buffer : List ℕ) where
     abbrev p : List ℕ
     p = record_from (from d i)
 
-    pub takes_record : n ≤ length buffer → (r : Layout) (last : List ℕ) → LaidOut number p buffer r last → TakenRecord d i buffer (Takens.Record r) last
+    pub takes_record : n ≤ length buffer → (r : Layout) (last : List ℕ) → LaidOut number p buffer r last → TakenRecord d i buffer (Ok r) last
     takes_record h r last l =
         let room : length p ≤ length buffer = omega (arith, start_long d i number n start) in
-        by_event _ (event_record d i number n start) _ _ (rw (le-leb _ _ room) (ap Takens.Record l.told)) (l.bytes ∙ sym (front_room p buffer room))
+        by_event _ (event_record d i number n start) _ _ (rw (le-leb _ _ room) (ap Ok l.told)) (l.bytes ∙ sym (front_room p buffer room))
 
-    pub takes_none : length buffer < n → TakenRecord d i buffer Takens.NoRoom buffer
+    pub takes_none : length buffer < n → TakenRecord d i buffer (Err NoRoom) buffer
     takes_none h =
         let room : length buffer < length p = omega (arith, start_long d i number n start) in
         by_event _ (event_record d i number n start) _ _ (rw (lt-leb _ _ room)) (sym (front_none p buffer room))
 
-  takes_nothing : ((number n : ℕ) → found_at d i ≡ Founds.Record number n → ⊥) → TakenRecord d i buffer Takens.NoRecord buffer
+  pub takes_nothing : ((number n : ℕ) → found_at d i ≡ Founds.Record number n → ⊥) → TakenRecord d i buffer (Err NoRecord) buffer
   takes_nothing h = by_event _ (event_none d i h) _ _ refl refl
 
-  pub takes_lost : (loss : Loss) → found_at d i ≡ Founds.Lost loss → TakenRecord d i buffer Takens.NoRecord buffer
-  takes_lost loss e = takes_nothing (λ number n f. let z : ◌≡◌ {A = ℕ} 0 1 = cc in omega arith)
-
-  pub takes_end : found_at d i ≡ Founds.End → TakenRecord d i buffer Takens.NoRecord buffer
-  takes_end e = takes_nothing (λ number n f. let z : ◌≡◌ {A = ℕ} 0 1 = cc in omega arith)
-
-  pub taken_event : (number : ℕ) (p : List ℕ) → event_at d i ≡ record_at i number p → length p ≤ length buffer → (r : Taken) (last : List ℕ)
-      → TakenRecord d i buffer r last → (r ≡ Takens.Record (layout_of number p)) × (last ≡ p ++ drop (length p) buffer)
+  pub taken_event : (number : ℕ) (p : List ℕ) → event_at d i ≡ record_at i number p → length p ≤ length buffer → (r : Result Layout NotTaken) (last : List ℕ)
+      → TakenRecord d i buffer r last → (r ≡ Ok (layout_of number p)) × (last ≡ p ++ drop (length p) buffer)
   taken_event number p e room r last t = (
     t.told ∙ ap (λ (event : Event). taken_of (length buffer) event) e ∙ rw (le-leb _ _ room),
     t.bytes ∙ ap (λ (event : Event). buffer_taken buffer event) e ∙ front_room p buffer room,
@@ -140,5 +134,5 @@ module _ (d : List ℕ) (i : ℕ) (buffer : List ℕ) where
 
   -- ---- S11
 
-  pub one_taking : (r s : Taken) (last other : List ℕ) → TakenRecord d i buffer r last → TakenRecord d i buffer s other → (r ≡ s) × (last ≡ other)
+  pub one_taking : (r s : Result Layout NotTaken) (last other : List ℕ) → TakenRecord d i buffer r last → TakenRecord d i buffer s other → (r ≡ s) × (last ≡ other)
   one_taking r s last other h k = (h.told ∙ sym k.told, h.bytes ∙ sym k.bytes)

@@ -11,6 +11,7 @@ use Prim.Native.Nat.{ℕ, ◌+◌, ◌*◌, ◌^◌, ◌<◌}
 use native.Mathlib.Omega.{arith}
 use lib.ListN.{length, take, drop, length-append}
 use lib.Seq.{take_at, drop_at}
+use Rattle.std.specs.Prelude.{Result, Ok}
 use Rattle.recovery.specs.Submitted.{Submitted, submitted_octets, Writable}
 use Rattle.recovery.specs.Statements.{AsItWas, ReadAgain, ReadsBack}
 use Rattle.octets.specs.Octets.{octet_at}
@@ -24,18 +25,18 @@ use Rattle.writer.proofs.Laws.Statements.{rest_kept}
 use Rattle.reader.specs.Runs.{blocks, from}
 use Rattle.reader.specs.Events.{Event, record_at}
 use Rattle.reader.specs.Stepping.{item_of, room_after, event_at}
-use Rattle.reader.specs.declared.taking.Taken.{Taken}
+use Rattle.reader.specs.declared.taking.Layout.{Layout}
+use Rattle.reader.specs.declared.taking.NotTaken.{NotTaken}
 use Rattle.reader.proofs.Laws.Walking.{item_is, room_is}
 use Rattle.reader.proofs.Laws.Taking.{taken_event}
 use Rattle.recovery.proofs.Laws.Taken.{Proper, certificate_short, proper, linted, linted_room_lem}
 use Rattle.recovery.proofs.Laws.Written.{first_number, blocks_start, blocks_record}
 use Rattle.recovery.proofs.Laws.Decks.{end_to_end_blocks, past_whole}
 use Rattle.reader.specs.declared.stepping.Item.TheVariants as Items
-use Rattle.reader.specs.declared.taking.Taken.TheVariants as Takens
 
 -- ---- the parts of a record's octets
 
-module _ (number : ℕ) (s : Submitted) (buffer : List ℕ) (r : Taken) (last : List ℕ) where
+module _ (number : ℕ) (s : Submitted) (buffer : List ℕ) (r : Result Layout NotTaken) (last : List ℕ) where
   abbrev head : List ℕ
   head = s.profile ∷ pair_of (length s.certificate)
 
@@ -47,7 +48,7 @@ module _ (number : ℕ) (s : Submitted) (buffer : List ℕ) (r : Taken) (last : 
     unfolding record_of
     in_parts = e ∙ ap (λ (l : List ℕ). head ++ l) (append_assoc s.certificate s.issuer behind)
 
-    pub parts_taken : r ≡ Takens.Record (record { number = number; length = length (submitted_octets s); certificate = length s.certificate })
+    pub parts_taken : r ≡ Ok (record { number = number; length = length (submitted_octets s); certificate = length s.certificate })
         → AsItWas number s buffer r last
     parts_taken told =
         let c : ℕ = length s.certificate in
@@ -83,7 +84,7 @@ event_read number s w deck position inside e =
           let both = taken_event deck position buffer number p e (omega (arith, record_length_lem s.profile s.certificate s.issuer)) r last take in
           parts_taken number s buffer r last both.1
           (both.0
-          ∙ ap (λ (c : ℕ). Takens.Record (record { number = number; length = length p; certificate = c }))
+          ∙ ap (λ (c : ℕ). Ok (record { number = number; length = length p; certificate = c }))
           (record_cut s.profile s.certificate s.issuer (certificate_short s w)));
     }
 

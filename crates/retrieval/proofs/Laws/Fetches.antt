@@ -8,18 +8,20 @@
 -- Assumes nothing.
 use mathlib.Core.Path.{◌≡◌, refl, sym, ap, ap₂, subst, ◌∙◌}
 use mathlib.Core.Bool.{Bool, true, false, cond}
-use mathlib.Core.Logic.{◌≢◌, ⊎_elim}
+use mathlib.Core.Logic.{⊎_elim}
 use mathlib.Core.List.{List, [], ◌∷◌, ◌++◌}
 use Prim.Native.Nat.{ℕ, zero, suc, ◌+◌, ◌-◌, ◌*◌, ◌≤◌, ◌<◌}
 use native.Mathlib.Omega.{arith}
 use lib.Dec.{eqb, leb}
+use Rattle.std.specs.Prelude.{Option, Some, None, Result, Ok, Err}
 use lib.ListN.{length, take, drop, length-take, length-drop}
 use lib.Seq.{take_at}
 use borrow.Author.Tests.{leb-true, le-leb, eqb-true, eqb-false}
-use Rattle.retrieval.specs.Fetching.{written_side, numbered, sides_in, fetched_of, out_after, FetchedFirst}
-use Rattle.retrieval.specs.Workings.Fetching.{PutOctets}
+use Rattle.std.proofs.lemmas.Option.{none-some, same_Some}
+use Rattle.retrieval.specs.Fetching.{written_side, numbered, sides_in, no_room, fetched_octets, fetched_of, out_after, FetchedFirst}
 use Rattle.retrieval.specs.Fetches.{FetchedFrom, Fetches, nothing, another, FetchesAll, FetchesEnd, GoesForward, RoomEnough}
 use Rattle.retrieval.specs.declared.Fetched.{Fetched}
+use Rattle.retrieval.specs.declared.NoRoom.{NoRoom}
 use Rattle.blocks.specs.Record.{parts, certificate_length, certificate_octets, issuer_octets}
 use Rattle.blocks.proofs.Laws.Logic.{true_or_false}
 use Rattle.lint.specs.declared.reasons.Side.{Side}
@@ -27,12 +29,12 @@ use Rattle.lint.specs.declared.reasons.Side.TheVariants.{Certificate, Issuer}
 use Rattle.reader.specs.Runs.{from, record_from}
 use Rattle.reader.specs.Events.{Event, record_at, events, events_from}
 use Rattle.reader.specs.Finding.{found_at}
+use Rattle.reader.specs.Taking.{in_front_of}
 use Rattle.reader.specs.declared.finding.Found.{Found}
 use Rattle.reader.proofs.Laws.Found.{Start, start_of, found_none}
 use Rattle.reader.proofs.Laws.Taking.{front_room, start_long, start_cut}
 use Rattle.retrieval.proofs.Laws.Fetching.{here, past_record, past_lost, at_end}
 use Rattle.reader.specs.declared.finding.Found.TheVariants as Founds
-use Rattle.retrieval.specs.declared.Fetched.TheVariants as Fetcheds
 
 -- ---- the next record of a number
 
@@ -72,27 +74,24 @@ module _ (d : List ℕ) (number : ℕ) where
 -- ---- what is said of octets
 
 module _ (s : List ℕ) (after room : ℕ) where
-  said : (n next : ℕ) (t : Bool) → leb (length s) room ≡ t → Fetcheds.Octets n next ≡ cond t (Fetcheds.Octets (length s) after) Fetcheds.NoRoom
-      → (n ≡ length s) × (next ≡ after) × (length s ≤ room)
-  said n next true e h = (cc, cc, leb-true (length s) room e)
-  said n next false e h = absurd (let z : ◌≡◌ {A = ℕ} 0 1 = cc in omega arith)
-
-  something : (t : Bool) → cond t (Fetcheds.Octets (length s) after) Fetcheds.NoRoom ≢ Fetcheds.Nothing
-  something true e = let z : ◌≡◌ {A = ℕ} 0 1 = cc in omega arith
-  something false e = let z : ◌≡◌ {A = ℕ} 0 1 = cc in omega arith
+  said : (fetched : Fetched) (t : Bool) → leb (length s) room ≡ t
+      → ◌≡◌ {A = Result Fetched NoRoom} (Ok fetched) (cond t (Ok (record { length = length s; next = after })) (Err no_room))
+      → (fetched.length ≡ length s) × (fetched.next ≡ after) × (length s ≤ room)
+  said fetched true e h =
+      let same : fetched ≡ record { length = length s; next = after } = cc in
+      (ap (λ (f : Fetched). f.length) same, ap (λ (f : Fetched). f.next) same, leb-true (length s) room e)
+  said fetched false e h = cc
 
 -- what a fetch says, by the next record
-module _ (es : List Event) (side : Side) (out : List ℕ) (r : Fetched) (last : List ℕ) (h : FetchedFirst es side out r last) where
-  of_none : es ≡ [] → r ≡ Fetcheds.Nothing
-  of_none e = h.told ∙ ap (λ (l : List Event). fetched_of side (length out) l) e
+module _ (es : List Event) (side : Side) (out : List ℕ) (r : Option (Result Fetched NoRoom)) (last : List ℕ) (h : FetchedFirst es side out r last)
+  where
+    of_none : es ≡ [] → r ≡ None
+    of_none e = h.told ∙ ap (λ (l : List Event). fetched_of side (length out) l) e
 
-  of_first : (j number : ℕ) (p : List ℕ) (later : List Event) → es ≡ record_at j number p ∷ later
-      → PutOctets (written_side side p) (j + parts (length p)) out r last
-  of_first j number p later e =
-      record {
-        told = h.told ∙ ap (λ (l : List Event). fetched_of side (length out) l) e;
-        bytes = h.bytes ∙ ap (λ (l : List Event). out_after side out l) e;
-      }
+    of_first : (j number : ℕ) (p : List ℕ) (later : List Event) → es ≡ record_at j number p ∷ later
+        → (r ≡ Some (fetched_octets (written_side side p) (j + parts (length p)) (length out))) × (last ≡ in_front_of (written_side side p) out)
+    of_first j number p later e =
+        (h.told ∙ ap (λ (l : List Event). fetched_of side (length out) l) e, h.bytes ∙ ap (λ (l : List Event). out_after side out l) e)
 
 side_short : (side : Side) (p : List ℕ) → 3 + certificate_length p ≤ length p → length (written_side side p) ≤ length p - 3
 unfolding certificate_octets issuer_octets
@@ -112,17 +111,17 @@ module _ (deck : List ℕ) (number : ℕ) (side : Side) where
       omega (arith, side_short side (at j) (omega (arith, start_cut deck j number m start)), start.most)
 
   pub goes_forward : GoesForward deck number side
-  goes_forward position n next out last r e h = go (first_from deck number position)
+  goes_forward position fetched out last r e h = go (first_from deck number position)
     where
-      go : First deck number position → (position < next) × (512 * next ≤ length deck) × (n ≤ length out)
+      go : First deck number position → (position < fetched.next) × (512 * fetched.next ≤ length deck) × (fetched.length ≤ length out)
       go (none f) =
-          let g : r ≡ Fetcheds.Nothing = of_none _ side out r last h f in
-          absurd (let z : ◌≡◌ {A = ℕ} 0 1 = cc in omega arith)
+          let g : r ≡ None = of_none _ side out r last h f in
+          absurd (none-some _ (sym g ∙ e))
       go (stands j m l f g) =
           let start : Start deck j number m = start_of deck j number m f in
-          let told = said (written_side side (at j)) (j + parts (length (at j))) (length out) n next _ refl
-          (sym e ∙ (of_first _ side out r last h j number (at j) _ g).told) in
-          let to : next ≡ j + parts m = told.1 ∙ ap (λ (k : ℕ). j + parts k) (start_long deck j number m start) in
+          let told = said (written_side side (at j)) (j + parts (length (at j))) (length out) fetched _ refl
+          (same_Some _ _ (sym e ∙ (of_first _ side out r last h j number (at j) _ g).0)) in
+          let to : fetched.next ≡ j + parts m = told.1 ∙ ap (λ (k : ℕ). j + parts k) (start_long deck j number m start) in
           (omega (arith, start.least), omega (arith, start.whole), omega (arith, told.0, told.2))
 
   pub room_enough : RoomEnough deck number side
@@ -130,13 +129,12 @@ module _ (deck : List ℕ) (number : ℕ) (side : Side) where
     where
       go : First deck number position → ⊥
       go (none f) =
-          let g : r ≡ Fetcheds.Nothing = of_none _ side out r last h f in
-          let z : ◌≡◌ {A = ℕ} 0 1 = cc in omega arith
+          none-some _ (sym (of_none _ side out r last h f) ∙ e)
       go (stands j m l f g) =
           let fit : length (written_side side (at j)) ≤ length out = omega (arith, side_fits j m f) in
-          let told : r ≡ Fetcheds.Octets (length (written_side side (at j))) (j + parts (length (at j))) =
-          (of_first _ side out r last h j number (at j) _ g).told ∙ rw (le-leb _ _ fit) in
-          let z : ◌≡◌ {A = ℕ} 0 1 = cc in omega arith
+          let told : r ≡ Some (Ok (record { length = length (written_side side (at j)); next = j + parts (length (at j)) })) =
+          (of_first _ side out r last h j number (at j) _ g).0 ∙ rw (le-leb _ _ fit) in
+          cc
 
   -- each fetch gives the next, and those behind it are the others
   all_left : (position : ℕ) (sides : List (List ℕ)) → Fetches deck number side position sides
@@ -146,23 +144,21 @@ module _ (deck : List ℕ) (number : ℕ) (side : Side) where
       go : First deck number position → [] ≡ sides_in side (numbered number (events_from deck position))
       go (none f) = sym (ap (λ (es : List Event). sides_in side es) f)
       go (stands j m l f g) =
-          absurd (something (written_side side (at j)) (j + parts (length (at j))) (length out) (leb (length (written_side side (at j))) (length out))
-          (sym (of_first _ side out Fetcheds.Nothing last h j number (at j) _ g).told))
-  all_left position _ (another {later = later} n next out last h rest) = go (all_left next later rest) (first_from deck number position)
+          absurd (none-some _ (of_first _ side out None last h j number (at j) _ g).0)
+  all_left position _ (another {later = later} fetched out last h rest) = go (all_left fetched.next later rest) (first_from deck number position)
     where
-      go : later ≡ sides_in side (numbered number (events_from deck next)) → First deck number position
-          → take n last ∷ later ≡ sides_in side (numbered number (events_from deck position))
+      go : later ≡ sides_in side (numbered number (events_from deck fetched.next)) → First deck number position
+          → take fetched.length last ∷ later ≡ sides_in side (numbered number (events_from deck position))
       go others (none f) =
-          let g : Fetcheds.Octets n next ≡ Fetcheds.Nothing = of_none _ side out (Fetcheds.Octets n next) last h f in
-          absurd (let z : ◌≡◌ {A = ℕ} 0 1 = cc in omega arith)
+          absurd (none-some _ (sym (of_none _ side out (Some (Ok fetched)) last h f)))
       go others (stands j m l f g) =
           let s : List ℕ = written_side side (at j) in
-          let put = of_first _ side out (Fetcheds.Octets n next) last h j number (at j) _ g in
-          let told = said s (j + parts (length (at j))) (length out) n next _ refl put.told in
-          let to : next ≡ j + parts m =
+          let put = of_first _ side out (Some (Ok fetched)) last h j number (at j) _ g in
+          let told = said s (j + parts (length (at j))) (length out) fetched _ refl (same_Some _ _ put.0) in
+          let to : fetched.next ≡ j + parts m =
           told.1 ∙ ap (λ (k : ℕ). j + parts k) (start_long deck j number m (start_of deck j number m f)) in
-          let front : take n last ≡ s =
-          ap₂ (λ (k : ℕ) (t : List ℕ). take k t) told.0 (put.bytes ∙ front_room s out told.2) ∙ take_at s (drop (length s) out) (length s) refl in
+          let front : take fetched.length last ≡ s =
+          ap₂ (λ (k : ℕ) (t : List ℕ). take k t) told.0 (put.1 ∙ front_room s out told.2) ∙ take_at s (drop (length s) out) (length s) refl in
           ap₂ (λ (x : List ℕ) (xs : List (List ℕ)). x ∷ xs) front
           (others ∙ ap (λ (k : ℕ). sides_in side (numbered number (events_from deck k))) to)
           ∙ sym (ap (λ (es : List Event). sides_in side es) g)
@@ -184,11 +180,11 @@ module _ (deck : List ℕ) (number : ℕ) (side : Side) where
         let start : Start deck j number m = start_of deck j number m f in
         let fit : length s ≤ length out = omega (arith, side_fits j m f) in
         let size : length (at j) ≡ m = start_long deck j number m start in
-        let h : FetchedFrom deck i number side out (Fetcheds.Octets (length s) (j + parts m)) (s ++ drop (length s) out) =
+        let h : FetchedFrom deck i number side out (Some (Ok (record { length = length s; next = j + parts m }))) (s ++ drop (length s) out) =
         rw g (record { told = rw (size, le-leb _ _ fit); bytes = sym (front_room s out fit) }) in
         subst (λ (sides : List (List ℕ)). Fetches deck number side i sides)
         (ap (λ (x : List ℕ). x ∷ left (j + parts m)) (take_at s (drop (length s) out) (length s) refl) ∙ sym (ap (λ (es : List Event). sides_in side es) g))
-        (another (length s) (j + parts m) out (s ++ drop (length s) out) h (later (j + parts m) (omega (arith, start.least)) start.whole))
+        (another (record { length = length s; next = j + parts m }) out (s ++ drop (length s) out) h (later (j + parts m) (omega (arith, start.least)) start.whole))
 
     fetch_left : (octets i : ℕ) → length deck ≤ 512 * i + octets → Fetches deck number side i (left i)
     fetch_left zero i h = fetch_first i (λ k forward inside. absurd (omega arith)) (first_from deck number i)
@@ -200,6 +196,6 @@ module _ (deck : List ℕ) (number : ℕ) (side : Side) where
 
   -- ---- S11
 
-  pub one_fetch : (position : ℕ) (out : List ℕ) (r s : Fetched) (last other : List ℕ)
+  pub one_fetch : (position : ℕ) (out : List ℕ) (r s : Option (Result Fetched NoRoom)) (last other : List ℕ)
       → FetchedFrom deck position number side out r last → FetchedFrom deck position number side out s other → (r ≡ s) × (last ≡ other)
   one_fetch position out r s last other h k = (h.told ∙ sym k.told, h.bytes ∙ sym k.bytes)

@@ -1,7 +1,7 @@
 -- What is fetched from a position on.
 --     puts_octets, puts_none             octets that go into a buffer, or do not
 --     side_certificate, side_issuer      where the sides stand in a record
---     Held, held, never_short, never_none             all that is known of the desk that a record was taken to
+--     is_taken, Held, held                     that a record was taken to the desk, and all that is known of it
 --     here, past_record, past_lost, at_end     the records of a number from a position on, by what is found there
 --     first_put                          the first of them
 --     search_found, search_ended         the answer where the search stops
@@ -11,12 +11,14 @@ use mathlib.Core.Logic.{⊎_elim}
 use mathlib.Core.List.{List, [], ◌∷◌, ◌++◌}
 use Prim.Native.Nat.{ℕ, ◌+◌, ◌-◌, ◌*◌, ◌≤◌, ◌<◌}
 use native.Mathlib.Omega.{arith}
+use Rattle.std.specs.Prelude.{Some, None, Result, Ok, Err, IsOk}
 use lib.ListN.{length, take, drop, length-append, length-drop}
 use lib.Seq.{take_at, length-take-le}
 use borrow.Author.Tests.{le-leb, lt-leb, eq-eqb, ne_eqb}
-use Rattle.retrieval.specs.Fetching.{written_side, numbered, FetchedFirst}
+use Rattle.retrieval.specs.Fetching.{written_side, numbered, no_room, FetchedFirst}
 use Rattle.retrieval.specs.Workings.Fetching.{PutOctets}
 use Rattle.retrieval.specs.declared.Fetched.{Fetched}
+use Rattle.retrieval.specs.declared.NoRoom.{NoRoom}
 use Rattle.octets.specs.Copying.{copied}
 use Rattle.blocks.specs.Record.{parts, certificate_length, certificate_octets, issuer_octets}
 use Rattle.blocks.proofs.Laws.Logic.{below_or_not}
@@ -28,14 +30,12 @@ use Rattle.reader.specs.Taking.{layout_of, TakenRecord}
 use Rattle.reader.specs.declared.finding.Loss.{Loss}
 use Rattle.reader.specs.declared.finding.Found.{Found}
 use Rattle.reader.specs.declared.taking.Layout.{Layout}
-use Rattle.reader.specs.declared.taking.Taken.{Taken}
+use Rattle.reader.specs.declared.taking.NotTaken.{NotTaken}
 use Rattle.reader.proofs.Laws.Found.{Start, start_of, found_none}
 use Rattle.reader.proofs.Laws.Counts.{reads_on, ends}
 use Rattle.reader.proofs.Laws.Stepping.{cut_on_desk, on_certificate_lem, on_issuer_lem}
 use Rattle.reader.proofs.Laws.Taking.{front_room, front_none, copied_front, event_record, event_none, start_long, start_cut, taken_event}
 use Rattle.reader.specs.declared.finding.Found.TheVariants as Founds
-use Rattle.reader.specs.declared.taking.Taken.TheVariants as Takens
-use Rattle.retrieval.specs.declared.Fetched.TheVariants as Fetcheds
 
 -- ---- octets into a buffer
 
@@ -46,7 +46,7 @@ module _ (octets : List ℕ) (at n next : ℕ) (out : List ℕ) (inside : at + n
   long : length s ≡ n
   long = length-take-le n (drop at octets) (simp length-drop (omega arith))
 
-  pub puts_octets : n ≤ length out → (last : List ℕ) → last ≡ copied octets at n out 0 → PutOctets s next out (Fetcheds.Octets n next) last
+  pub puts_octets : n ≤ length out → (last : List ℕ) → last ≡ copied octets at n out 0 → PutOctets s next out (Ok (record { length = n; next = next })) last
   puts_octets h last copy =
       record {
         told = rw (long, le-leb n (length out) h);
@@ -54,7 +54,7 @@ module _ (octets : List ℕ) (at n next : ℕ) (out : List ℕ) (inside : at + n
             copy ∙ copied_front octets at n out inside h ∙ ap (λ (m : ℕ). s ++ drop m out) (sym long) ∙ sym (front_room s out (omega (arith, long)));
       }
 
-  pub puts_none : length out < n → PutOctets s next out Fetcheds.NoRoom out
+  pub puts_none : length out < n → PutOctets s next out (Err no_room) out
   puts_none h = record { told = rw (long, lt-leb n (length out) h); bytes = sym (front_none s out (omega (arith, long))) }
 
 -- ---- the sides of a record
@@ -78,7 +78,7 @@ pub record Held (d : List ℕ) (i n : ℕ) (desk : List ℕ) (layout : Layout) :
   pub enough : n ≤ length desk
   pub within : 512 * (i + parts n) ≤ length d
 
-module _ (d : List ℕ) (i number n : ℕ) (f : found_at d i ≡ Founds.Record number n) (desk₀ : List ℕ) (long : length desk₀ ≡ 16387) (r : Taken)
+module _ (d : List ℕ) (i number n : ℕ) (f : found_at d i ≡ Founds.Record number n) (desk₀ : List ℕ) (long : length desk₀ ≡ 16387) (r : Result Layout NotTaken)
     (desk : List ℕ) (t : TakenRecord d i desk₀ r desk) where
   abbrev p : List ℕ
   p = record_from (from d i)
@@ -86,11 +86,11 @@ module _ (d : List ℕ) (i number n : ℕ) (f : found_at d i ≡ Founds.Record n
   start : Start d i number n
   start = start_of d i number n f
 
-  taken : (r ≡ Takens.Record (layout_of number p)) × (desk ≡ p ++ drop (length p) desk₀)
+  taken : (r ≡ Ok (layout_of number p)) × (desk ≡ p ++ drop (length p) desk₀)
   taken =
       taken_event d i desk₀ number p (event_record d i number n start) (omega (arith, start_long d i number n start, start.most)) r desk t
 
-  pub held : (layout : Layout) → r ≡ Takens.Record layout → Held d i n desk layout
+  pub held : (layout : Layout) → r ≡ Ok layout → Held d i n desk layout
   held layout e =
       let same : layout ≡ layout_of number p = cc taken.0 in
       let size : length p ≡ n = start_long d i number n start in
@@ -104,11 +104,8 @@ module _ (d : List ℕ) (i number n : ℕ) (f : found_at d i ≡ Founds.Record n
         within = start.whole;
       }
 
-  pub never_short : r ≡ Takens.NoRoom → ⊥
-  never_short e = let z : ◌≡◌ {A = ℕ} 0 1 = cc taken.0 in omega arith
-
-  pub never_none : r ≡ Takens.NoRecord → ⊥
-  never_none e = let z : ◌≡◌ {A = ℕ} 0 1 = cc taken.0 in omega arith
+  pub is_taken : IsOk r
+  is_taken = rw taken.0
 
 -- ---- the records of a number from a position on
 
@@ -152,19 +149,20 @@ module _ (d : List ℕ) (i : ℕ) where
 
 -- ---- the first of them
 
-module _ (d : List ℕ) (i number n : ℕ) (f : found_at d i ≡ Founds.Record number n) (side : Side) (out : List ℕ) (r : Fetched) (last : List ℕ) where
-  pub first_put : PutOctets (written_side side (record_from (from d i))) (i + parts n) out r last
-      → FetchedFirst (numbered number (events_from d i)) side out r last
-  first_put h =
-      let size : length (record_from (from d i)) ≡ n = start_long d i number n (start_of d i number n f) in
-      rw (here d i number n f) (record { told = rw size h.told; bytes = h.bytes })
+module _ (d : List ℕ) (i number n : ℕ) (f : found_at d i ≡ Founds.Record number n) (side : Side) (out : List ℕ) (r : Result Fetched NoRoom) (last : List ℕ)
+  where
+    pub first_put : PutOctets (written_side side (record_from (from d i))) (i + parts n) out r last
+        → FetchedFirst (numbered number (events_from d i)) side out (Some r) last
+    first_put h =
+        let size : length (record_from (from d i)) ≡ n = start_long d i number n (start_of d i number n f) in
+        rw (here d i number n f) (record { told = rw size (ap Some h.told); bytes = h.bytes })
 
 -- the answer where the search stops, at a position from which on the records are those from the start on, and the buffer is as it was
 module _ (d : List ℕ) (i number : ℕ) (es : List Event) (same : numbered number (events_from d i) ≡ es) (side : Side) (out₀ out : List ℕ)
     (kept : out ≡ out₀) where
-  pub search_found : (other n : ℕ) → found_at d i ≡ Founds.Record other n → other ≡ number → (r : Fetched) (last : List ℕ)
-      → PutOctets (written_side side (record_from (from d i))) (i + parts n) out r last → FetchedFirst es side out₀ r last
+  pub search_found : (other n : ℕ) → found_at d i ≡ Founds.Record other n → other ≡ number → (r : Result Fetched NoRoom) (last : List ℕ)
+      → PutOctets (written_side side (record_from (from d i))) (i + parts n) out r last → FetchedFirst es side out₀ (Some r) last
   search_found other n f e r last h = rw (← same, ← kept) (first_put d i number n (rw e at f) side out r last h)
 
-  pub search_ended : found_at d i ≡ Founds.End → FetchedFirst es side out₀ Fetcheds.Nothing out
+  pub search_ended : found_at d i ≡ Founds.End → FetchedFirst es side out₀ None out
   search_ended f = rw (← same, at_end d i number f) (record { told = refl; bytes = kept })

@@ -4,7 +4,7 @@ use Prim.Native.Nat.{ℕ}
 use native.Mathlib.Omega.{arith}
 use lib.ListN.{length, replicate, length-replicate}
 use Rattle.reader.proofs.Laws.Found.{start_of}
-use Rattle.retrieval.proofs.Laws.Fetching.{held, never_short, never_none}
+use Rattle.retrieval.proofs.Laws.Fetching.{is_taken, held}
 use Rattle.retrieval.proofs.fetch_at.Goals as goal
 
 -- ? helper
@@ -14,18 +14,15 @@ long = length-replicate {A = ℕ} 16387 0
 pub overflow_add-next : goal.overflow_add-next
 overflow_add-next c = omega (arith, c.parts_of.ensures, (start_of c.args.deck.now c.args.at _ _ c.requires).whole)
 
+pub unwrap-layout-requires : goal.unwrap-layout-requires
+unwrap-layout-requires c = is_taken _ _ _ _ c.requires _ long _ _ c.take_record.ensures
+
 pub put_side-requires : goal.put_side-requires
 put_side-requires c =
-    let on_desk = held _ _ _ _ c.requires _ long _ _ c.take_record-taken.ensures _ c.in-Record.is in
+    let on_desk = held _ _ _ _ c.requires _ long _ _ c.take_record.ensures _ c.unwrap-layout.ensures in
     (on_desk.cut, on_desk.fits, on_desk.enough)
 
-pub returns-in-Record : goal.returns-in-Record
-returns-in-Record c =
-    let on_desk = held _ _ _ _ c.requires _ long _ _ c.take_record-taken.ensures _ c.in-Record.is in
+pub returns : goal.returns
+returns c =
+    let on_desk = held _ _ _ _ c.requires _ long _ _ c.take_record.ensures _ c.unwrap-layout.ensures in
     rw (← on_desk.front, ← c.parts_of.ensures) c.put_side.ensures
-
-pub returns-in-NoRoom : goal.returns-in-NoRoom
-returns-in-NoRoom c = absurd (never_short _ _ _ _ c.requires _ long _ _ c.take_record-taken.ensures c.in-NoRoom.is)
-
-pub returns-in-NoRecord : goal.returns-in-NoRecord
-returns-in-NoRecord c = absurd (never_none _ _ _ _ c.requires _ long _ _ c.take_record-taken.ensures c.in-NoRecord.is)
