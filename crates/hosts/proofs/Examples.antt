@@ -4,7 +4,7 @@ use mathlib.Core.List.{List, [], ◌∷◌, ◌++◌, map}
 use mathlib.Core.Bool.{true, false}
 use Prim.Native.Nat.{ℕ, zero, suc}
 use Prim.Native.Char.{code}
-use Rattle.hosts.specs.Hosts.{label_octets, labels_from, labels_ok, host_of, is_plain}
+use Rattle.hosts.specs.Hosts.{label_octets, labels_from, labels_ok, is_host_name}
 use Rattle.texts.specs.Texts.{word}
 
 abbrev exes : ℕ → List ℕ
@@ -38,10 +38,10 @@ others =
     ∷ (exes 63 ++ (code "." ∷ (exes 63 ++ (code "." ∷ (exes 63 ++ (code "." ∷ exes 62))))))
     ∷ []
 
-pub plain : map (λ (name : List ℕ). is_plain (host_of name)) hosts ≡ map (λ (name : List ℕ). true) hosts
+pub plain : map (λ (name : List ℕ). is_host_name name) hosts ≡ map (λ (name : List ℕ). true) hosts
 unfolding word label_octets labels_from labels_ok
 plain = refl
 
-pub neither : map (λ (name : List ℕ). is_plain (host_of name)) others ≡ map (λ (name : List ℕ). false) others
+pub neither : map (λ (name : List ℕ). is_host_name name) others ≡ map (λ (name : List ℕ). false) others
 unfolding word label_octets labels_from labels_ok
 neither = refl

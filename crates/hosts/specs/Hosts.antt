@@ -3,8 +3,6 @@ use Rattle.std.specs.Prelude.{List, [], ◌∷◌, ◌++◌, Bool, true, false, 
 use Prim.Native.Char.{code}
 use Rattle.octets.specs.Octets.{is_one_of}
 use Rattle.hosts.specs.Names.{is_dns_name}
-use Rattle.hosts.specs.declared.hosts.Host.{Host}
-use Rattle.hosts.specs.declared.hosts.Host.TheVariants.{Plain, Neither}
 use Rattle.octets.specs.Characters.{is_digit, is_letter}
 use Rattle.der.specs.Contents.{last_of, contents_of}
 use Rattle.der.specs.declared.header.Head.{Head}
@@ -40,13 +38,9 @@ labels_ok [] = true
 labels_ok (label ∷ labels) = label_ok label && labels_ok labels
 
 -- "two or more labels of 1 to 63 letters, digits, hyphens (underscore passes here), no hyphen at either end of a label, at most 253 octets"
-abbrev pub host_of : List ℕ → Host
-host_of name = cond (leb (length name) 253 && (leb 2 (length (labels_of name)) && labels_ok (labels_of name))) Plain Neither
-
-abbrev pub is_plain : Host → Bool
-is_plain Plain = true
-is_plain Neither = false
+abbrev pub is_host_name : List ℕ → Bool
+is_host_name name = leb (length name) 253 && (leb 2 (length (labels_of name)) && labels_ok (labels_of name))
 
 -- 414 "each dNSName not of" the above
 abbrev pub no_host : List ℕ → Head → Bool
-no_host s h = is_dns_name h && not (is_plain (host_of (contents_of s h)))
+no_host s h = is_dns_name h && not (is_host_name (contents_of s h))

@@ -2,27 +2,11 @@
 ghost use Rattle.std.specs.Prelude.{◌≡◌, ◌&&◌, ◌<◌, length, leb};
 ghost use Rattle.octets.specs.Octets.{is_one_of, octets_from};
 ghost use Rattle.octets.specs.Numbers.{largest};
-ghost use Rattle.hosts.specs.Hosts.{has_underscore, label_octet, labels_of, labels_ok, host_of, is_plain, no_host};
+ghost use Rattle.hosts.specs.Hosts.{has_underscore, label_octet, labels_of, labels_ok, is_host_name, no_host};
 ghost use Rattle.hosts.specs.Workings.Scanning.{may_end, may_grow, may_follow, size_after};
 
 use crate::named::is_dns_name;
 use der::Head;
-
-// What a name is as a host name.
-#[derive(Clone, Copy)]
-pub enum Host {
-    Plain,
-    Neither,
-}
-
-pub fn is_plain(host: Host) -> bool
-    ensures { result ≡ is_plain host }
-{
-    match host {
-        Host::Plain => true,
-        Host::Neither => false,
-    }
-}
 
 // Whether x is one of the n octets from `body` on.
 fn has_octet(s: &[u8], x: u8, body: usize, n: usize) -> bool
@@ -101,17 +85,14 @@ fn labels_ok(s: &[u8], body: usize, n: usize) -> bool
     dotted & may_end(size, last)
 }
 
-// What the n octets from `body` on are as a host name.
-pub fn host_name(s: &[u8], body: usize, n: usize) -> Host
-    ensures { result ≡ host_of (octets_from s.now body n) }
+// Whether the n octets from `body` on are a host name.
+pub fn is_host_name(s: &[u8], body: usize, n: usize) -> bool
+    ensures { result ≡ is_host_name (octets_from s.now body n) }
 {
     if n <= 253 {
-        if labels_ok(s, body, n) {
-            return Host::Plain;
-        }
-        return Host::Neither;
+        return labels_ok(s, body, n);
     }
-    Host::Neither
+    false
 }
 
 // Rule 414: a dNSName that is no host name.
@@ -120,7 +101,7 @@ pub fn no_host(s: &[u8], h: Head) -> bool
 {
     let body = h.body;
     if is_dns_name(h) {
-        return !is_plain(host_name(s, body, octets::minus(h.end, body)));
+        return !is_host_name(s, body, octets::minus(h.end, body));
     }
     false
 }

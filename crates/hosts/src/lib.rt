@@ -4,5 +4,5 @@
 mod hosts;
 mod named;
 
-pub use hosts::{Host, has_underscore, host_name, is_plain, no_host};
+pub use hosts::{has_underscore, is_host_name, no_host};
 pub use named::{is_dns_name, some_same};

@@ -14,9 +14,8 @@ use native.Mathlib.Omega.{arith}
 use lib.ListN.{length}
 use lib.Dec.{leb, ltb, eqb}
 use borrow.Author.Tests.{ne_eqb, eqb-true, le-leb, lt-leb, ltb-true, ltb-false}
-use Rattle.hosts.specs.Hosts.{label_octet, label_octets, label_ok, labels_from, labels_of, labels_ok, host_of}
+use Rattle.hosts.specs.Hosts.{label_octet, label_octets, label_ok, labels_from, labels_of, labels_ok, is_host_name}
 use Rattle.hosts.specs.Workings.Scanning.{may_end, may_grow, may_follow, size_after}
-use Rattle.hosts.specs.declared.hosts.Host.TheVariants.{Plain, Neither}
 use Rattle.octets.specs.Octets.{octet_at, octets_from}
 use Rattle.octets.proofs.Laws.Octets.{octets_done, octets_next, octets_long}
 use Rattle.der.specs.Contents.{last_of}
@@ -198,10 +197,10 @@ size_grows size b k next e l = rw e (go (eqb b 46))
 
 -- ---- a host name
 
-pub host_long : (s : List ℕ) (body n : ℕ) → 253 < n → Neither ≡ host_of (octets_from s body n)
+pub host_long : (s : List ℕ) (body n : ℕ) → 253 < n → false ≡ is_host_name (octets_from s body n)
 host_long s body n l = rw (octets_long s body n, lt-leb n 253 l)
 
 pub host_short : (s : List ℕ) (body n : ℕ) (good : Bool) → n ≤ 253
     → good ≡ (leb 2 (length (labels_of (octets_from s body n))) && labels_ok (labels_of (octets_from s body n)))
-    → cond good Plain Neither ≡ host_of (octets_from s body n)
+    → good ≡ is_host_name (octets_from s body n)
 host_short s body n good l e = rw (octets_long s body n, le-leb n 253 l, e)
