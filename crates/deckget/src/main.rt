@@ -9,7 +9,6 @@
 mod sides;
 mod words;
 
-ghost use Rattle.std.specs.Prelude.{◌≡◌, length};
 ghost use Rattle.retrieval.specs.Fetching.{sides_of};
 ghost use Rattle.deckget.specs.Workings.Outcomes.{WroteAll};
 
@@ -31,20 +30,6 @@ const SPACE: usize = 65537;
 // A side of any record fits in so many octets: a record has at most 16,387, and three of them are its profile and the
 // certificate's length.
 const SIDE: usize = 16384;
-
-// Room for a deck, and for a side. A proof that has so long an array before it goes through all of it, so the arrays are
-// made here.
-fn deck_space() -> [u8; SPACE]
-    ensures { 65537 ≡ length result }
-{
-    [0; SPACE]
-}
-
-fn side_space() -> [u8; SIDE]
-    ensures { 16384 ≡ length result }
-{
-    [0; SIDE]
-}
 
 // What became of the sides that were asked for.
 #[derive(Clone, Copy)]
@@ -69,7 +54,7 @@ fn write_sides(
 ) -> Outcome
     ensures { WroteAll (sides_of side number deck.now) result }
 {
-    let mut space = side_space();
+    let mut space = octets::zeros::<SIDE>();
     let mut position: usize = 0;
     let mut count: usize = 0;
     loop {
@@ -104,7 +89,7 @@ fn get_from_input(
     number: usize,
     side: Side,
 ) {
-    let mut space = deck_space();
+    let mut space = octets::zeros::<SPACE>();
     let n = match streams::read_all(input, &mut space) {
         Loaded::Octets(n) => n,
         Loaded::Unreadable(error) => {
@@ -119,7 +104,7 @@ fn get_from_input(
 
 // The number that argument i says.
 fn number_in(rt: &impl Env, i: usize) -> Numeral {
-    let mut text = streams::name_space();
+    let mut text = octets::zeros::<{ streams::NAME_SPACE }>();
     match streams::argument(rt, i, &mut text) {
         Loaded::Octets(n) => texts::decimal_of(&text[..n]),
         Loaded::Unreadable(_) => Numeral::Other,
@@ -128,7 +113,7 @@ fn number_in(rt: &impl Env, i: usize) -> Numeral {
 
 // The side that argument i names.
 fn side_in(rt: &impl Env, i: usize) -> Choice {
-    let mut text = streams::name_space();
+    let mut text = octets::zeros::<{ streams::NAME_SPACE }>();
     match streams::argument(rt, i, &mut text) {
         Loaded::Octets(n) => sides::side_named(&text[..n]),
         Loaded::Unreadable(_) => Choice::Unknown,

@@ -108,7 +108,7 @@ fn profile_octet(profile: u32) -> u8
 
 // The number that argument i says.
 fn number_in(rt: &impl Env, i: usize) -> Numeral {
-    let mut text = streams::name_space();
+    let mut text = octets::zeros::<{ streams::NAME_SPACE }>();
     match streams::argument(rt, i, &mut text) {
         Loaded::Octets(n) => texts::decimal_of(&text[..n]),
         Loaded::Unreadable(_) => Numeral::Other,

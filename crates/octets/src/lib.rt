@@ -1,12 +1,14 @@
 // Octets by their place. Every function answers for every argument: past the end of the list an octet is 0.
 #![tactic(auto)]
 
+mod arrays;
 mod characters;
 mod comparing;
 mod copying;
 mod places;
 mod reading;
 
+pub use arrays::zeros;
 pub use characters::is_digit;
 pub use comparing::{equals, lower_case, same, same_ignoring_case, same_stretch};
 pub use copying::copy;

@@ -2,7 +2,7 @@
 ghost use Rattle.std.specs.Prelude.{length, IfOk, IsUtf8};
 ghost use Rattle.streams.specs.Reading.{Within};
 
-use crate::arguments::{argument, name_space};
+use crate::arguments::{NAME_SPACE, argument};
 use crate::saying::say_why;
 use std::fs::OpenOptions;
 use std::io::{Error, ErrorKind, Print, Read};
@@ -82,7 +82,7 @@ fn load_named(rt: &impl Files, errors: &impl Print, name: &[u8], space: &mut [u8
 pub fn load(rt: &(impl Env + Files), errors: &impl Print, i: usize, space: &mut [u8]) -> Loaded
     ensures { Within result (length space.new) }
 {
-    let mut name = name_space();
+    let mut name = octets::zeros::<NAME_SPACE>();
     match argument(rt, i, &mut name) {
         Loaded::Octets(n) => load_named(rt, errors, &name[..n], space),
         Loaded::Unreadable(error) => {

@@ -1,11 +1,11 @@
 -- A fetch goes forward in the deck and is counted, and there is always room for it.
-use Rattle.std.proofs.Common.{◌≤◌, length, arith}
+use Rattle.std.proofs.Common.{rules, ◌≤◌, length, arith}
 use Rattle.retrieval.proofs.Laws.Fetches.{goes_forward, room_enough}
 use Rattle.deckget.proofs.Laws.Counting.{counted_none, counted_next, counted_all}
 use Rattle.deckget.proofs.write_sides.Goals as goal
 
 pub loop-n-init : goal.loop-n-init
-loop-n-init g c = (c.side_space-space.ensures, (omega arith, (omega arith, counted_none _ _ _)))
+loop-n-init g c = (search rules, (omega arith, (omega arith, counted_none _ _ _)))
 
 pub loop-n-smaller : goal.loop-n-smaller
 loop-n-smaller g c = omega (arith, goes_forward _ _ _ _ _ _ _ _ _ c.in-Octets.is c.fetch-fetched.ensures)
