@@ -26,8 +26,6 @@ mod calls;
 mod decks;
 mod lines;
 
-ghost use Rattle.std.specs.Prelude.{◌≡◌, length};
-
 use asn::Verdict;
 use der::Soundness;
 use std::io::{Print, Read};
@@ -169,16 +167,9 @@ fn answer_all(input: &mut impl Read, output: &impl Print, space: &mut [u8], room
     }
 }
 
-// A proof that has so long an array before it goes through all of it, so the arrays are made here.
-fn large_space() -> [u8; 65536]
-    ensures { 65536 ≡ length result }
-{
-    [0; 65536]
-}
-
 // Frames and decks come into `space`, and the linter, the writer and the reader get `room`.
 fn main(rt: HostRuntime) {
-    let mut space = large_space();
-    let mut room = large_space();
+    let mut space = octets::zeros::<65536>();
+    let mut room = octets::zeros::<65536>();
     answer_all(&mut rt.stdin(), &rt, &mut space, &mut room);
 }

@@ -9,7 +9,6 @@
 mod sides;
 mod words;
 
-ghost use Rattle.std.specs.Prelude.{◌≡◌, length};
 ghost use Rattle.retrieval.specs.Fetching.{sides_of};
 ghost use Rattle.deckget.specs.Workings.Outcomes.{WroteAll};
 
@@ -28,18 +27,6 @@ const SPACE: usize = 65537;
 // certificate's length.
 const SIDE: usize = 16384;
 
-// Room for a deck, and for a side. A proof that has so long an array before it goes through all of it, so the arrays are
-// made here.
-fn deck_space() -> [u8; SPACE]
-    ensures { 65537 ≡ length result }
-{
-    [0; SPACE]
-}
-
-fn side_space() -> [u8; SIDE]
-    ensures { 16384 ≡ length result }
-{
-    [0; SIDE]
 }
 
 fn write(output: &impl Print, errors: &impl Print, side: &[u8]) -> bool {
@@ -57,7 +44,7 @@ fn write_sides(
 ) -> Option<usize>
     ensures { WroteAll (sides_of side number deck.now) result }
 {
-    let mut space = side_space();
+    let mut space = octets::zeros::<SIDE>();
     let mut position: usize = 0;
     let mut count: usize = 0;
     while let Some(found) = retrieval::fetch(deck, position, number, side, &mut space) {
@@ -87,7 +74,7 @@ fn get_from_input(
     number: usize,
     side: Side,
 ) {
-    let mut space = deck_space();
+    let mut space = octets::zeros::<SPACE>();
     let n = match streams::read_all(input, &mut space) {
         Ok(n) => n,
         Err(error) => return streams::say_why(errors, b"standard input", error),
@@ -100,7 +87,7 @@ fn get_from_input(
 
 // The side that argument i names.
 fn side_in(rt: &impl Env, i: usize) -> Option<Side> {
-    let mut text = streams::name_space();
+    let mut text = octets::zeros::<{ streams::NAME_SPACE }>();
     let n = streams::argument(rt, i, &mut text).ok()?;
     sides::side_named(&text[..n])
 }
@@ -110,7 +97,7 @@ fn main(rt: HostRuntime) {
     if streams::arg_count(&rt, 4) != 3 {
         return words::say_how_to_call(&errors);
     }
-    let Some(number) = streams::number_argument(&rt, 1, &mut streams::name_space()) else {
+    let Some(number) = streams::number_argument(&rt, 1, &mut octets::zeros::<{ streams::NAME_SPACE }>()) else {
         return words::say_how_to_call(&errors);
     };
     let Some(side) = side_in(&rt, 2) else {

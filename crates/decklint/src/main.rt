@@ -7,24 +7,10 @@
 // of what was said.
 #![tactic(auto)]
 
-ghost use Rattle.std.specs.Prelude.{◌≡◌, ◌≤◌, length};
+ghost use Rattle.std.specs.Prelude.{◌≤◌, length};
 ghost use Rattle.listing.specs.Filling.{item_space};
 
 use std::io::{Print, Read};
-
-// Space for a deck, and for a part of its listing. A proof that has so long an array before it goes through all of it, so
-// the arrays are made here, and `list_input` knows their lengths alone.
-fn deck_space() -> [u8; listing::DECK_SPACE]
-    ensures { 65537 ≡ length result }
-{
-    [0; listing::DECK_SPACE]
-}
-
-fn listing_space() -> [u8; listing::LISTING_SPACE]
-    ensures { 393216 ≡ length result }
-{
-    [0; listing::LISTING_SPACE]
-}
 
 fn write(output: &impl Print, errors: &impl Print, octets: &[u8]) -> bool {
     streams::write_out(output, errors, octets, b"decklint: standard output")
@@ -49,8 +35,8 @@ fn list_deck(output: &impl Print, errors: &impl Print, deck: &[u8], out: &mut [u
 
 // Lists the deck on standard input.
 fn list_input(input: &mut impl Read, output: &impl Print, errors: &impl Print) {
-    let mut space = deck_space();
-    let mut out = listing_space();
+    let mut space = octets::zeros::<{ listing::DECK_SPACE }>();
+    let mut out = octets::zeros::<{ listing::LISTING_SPACE }>();
     match streams::read_all(input, &mut space) {
         Ok(n) => list_deck(output, errors, &space[..n], &mut out),
         Err(error) => streams::say_why(errors, b"decklint: standard input", error),

@@ -104,7 +104,7 @@ fn append_named(rt: &impl Files, errors: &impl Print, name: &[u8], blocks: &[u8]
 
 // Adds the blocks to the deck that argument i names.
 pub fn append(rt: &(impl Env + Files), errors: &impl Print, i: usize, blocks: &[u8]) {
-    let mut name = streams::name_space();
+    let mut name = octets::zeros::<{ streams::NAME_SPACE }>();
     match streams::argument(rt, i, &mut name) {
         Ok(n) => append_named(rt, errors, &name[..n], blocks),
         Err(error) => streams::say_why(errors, b"deck's name", error),

@@ -104,7 +104,7 @@ fn profile_octet(profile: u32) -> u8
 // The same of number and profile.
 fn pack_arguments(rt: &(impl Env + Files + Print), errors: &impl Print, target: Target) {
     let place = number_place(target);
-    let mut text = streams::name_space();
+    let mut text = octets::zeros::<{ streams::NAME_SPACE }>();
     let Some(number) = streams::number_argument(rt, place, &mut text) else {
         return words::say_usage(errors);
     };

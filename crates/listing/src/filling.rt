@@ -54,13 +54,6 @@ pub fn start() -> Progress
     }
 }
 
-// A proof that has so long an array before it goes through all of it, so the room is made apart.
-fn linter_room() -> [u8; MOST]
-    ensures { 65536 ≡ length result }
-{
-    [0; MOST]
-}
-
 // Behind an item.
 fn advance(p: Progress, item: Item) -> Progress
     requires { p.position + item_blocks item ≤ largest }
@@ -145,6 +138,6 @@ pub fn fill_listing(out: &mut [u8], deck: &[u8], from: Progress) -> Filling
     if deck.len() > MOST {
         return fill_too_long(out, from);
     }
-    let mut room = linter_room();
+    let mut room = octets::zeros::<MOST>();
     fill_items(out, deck, from, &mut room)
 }

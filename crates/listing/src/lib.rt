@@ -1,5 +1,5 @@
 // The listing of a deck (document 01, "The deck") as octets in a lent buffer: the whole of it, a bufferful at a time. Every
-// function of `lines` puts its text at place n of the buffer, as far as the buffer goes, and answers the place behind it.
+// function of `lines` puts its text behind another in the buffer, as far as the buffer goes.
 #![tactic(auto)]
 
 mod filling;

@@ -1,4 +1,5 @@
-// The lines (document 01, "The deck"), each with the line feed that ends it.
+// The lines (document 01, "The deck"), each with the line feed that ends it. No `impl Display`: `write!` would answer a
+// `Result` at each line, and a text that ends where its buffer does has no error to tell.
 ghost use Rattle.texts.specs.Putting.{Grown};
 ghost use Rattle.report.specs.Entries.{entry_of, decode};
 ghost use Rattle.listing.specs.Lines.{level_text, finding_line, refusal_text, answer_text, record_line, lost_line, total_line, too_long_line};

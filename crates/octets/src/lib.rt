@@ -1,6 +1,7 @@
 // Octets by their place. Every function answers for every argument: past the end of the list an octet is 0.
 #![tactic(auto)]
 
+mod arrays;
 mod bits;
 mod characters;
 mod comparing;
@@ -9,6 +10,7 @@ mod places;
 mod reading;
 mod stretches;
 
+pub use arrays::zeros;
 pub use bits::bit;
 pub use characters::is_digit;
 pub use comparing::{equals, lower_case, same, same_ignoring_case, same_stretch};

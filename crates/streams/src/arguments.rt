@@ -1,5 +1,5 @@
 // The arguments that a program was started with.
-ghost use Rattle.std.specs.Prelude.{◌≡◌, ◌≤◌, length, IfOk};
+ghost use Rattle.std.specs.Prelude.{◌≤◌, length, IfOk};
 ghost use Rattle.streams.specs.Reading.{SaysNumber};
 
 use std::env::FillError;
@@ -12,12 +12,8 @@ const INVALID: i32 = 22;
 
 const TOO_LONG: i32 = 36;
 
-// Space for an argument: it holds any name of a file.
-pub fn name_space() -> [u8; 4096]
-    ensures { 4096 ≡ length result }
-{
-    [0; 4096]
-}
+// Space of so many octets holds any name of a file.
+pub const NAME_SPACE: usize = 4096;
 
 fn is_given(rt: &impl Env, i: usize) -> bool {
     let mut none = [0u8; 1];

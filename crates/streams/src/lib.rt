@@ -7,7 +7,7 @@ mod reading;
 mod saying;
 mod writing;
 
-pub use arguments::{arg_count, argument, name_space, number_argument};
+pub use arguments::{NAME_SPACE, arg_count, argument, number_argument};
 pub use reading::{load, open, read_all};
 pub use saying::{say_number, say_text, say_why};
 pub use writing::{write_out, write_to};

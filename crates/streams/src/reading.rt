@@ -1,7 +1,7 @@
 // Files that are read to their end.
 ghost use Rattle.std.specs.Prelude.{◌≤◌, length, IfOk, IsUtf8};
 
-use crate::arguments::{argument, name_space};
+use crate::arguments::{NAME_SPACE, argument};
 use crate::saying::say_why;
 use std::fs::OpenOptions;
 use std::io::{Error, ErrorKind, Print, Read};
@@ -64,7 +64,7 @@ pub fn load(
 ) -> io::Result<usize>
     ensures { IfOk result (λ n. n ≤ length space.new) }
 {
-    let mut name = name_space();
+    let mut name = octets::zeros::<NAME_SPACE>();
     let n = argument(rt, i, &mut name).inspect_err(|error| say_why(errors, b"file name", *error))?;
     load_named(rt, errors, &name[..n], space)
 }

@@ -1,12 +1,12 @@
 -- A fetch goes forward in the deck and is counted, and there is always room for it.
-use Rattle.std.proofs.Common.{arith, ap, ◌∙◌}
+use Rattle.std.proofs.Common.{rules, arith, ap, ◌∙◌}
 use Rattle.std.specs.Prelude.{Some}
 use Rattle.retrieval.proofs.Laws.Fetches.{goes_forward}
 use Rattle.deckget.proofs.Laws.Counting.{counted_none, counted_next, counted_all, has_room}
 use Rattle.deckget.proofs.write_sides.Goals as goal
 
 pub loop-found-init : goal.loop-found-init
-loop-found-init g c = (c.side_space-space.ensures, (omega arith, (omega arith, counted_none _ _ _)))
+loop-found-init g c = (search rules, (omega arith, (omega arith, counted_none _ _ _)))
 
 pub unwrap-fetched-requires : goal.unwrap-fetched-requires
 unwrap-fetched-requires g c = has_room _ _ _ _ _ _ _ _ (omega (arith, c.loop-found.invariant.0)) c.fetch.ensures c.in-Some.is
