@@ -1,5 +1,5 @@
 -- Refusal 6, "not a certificate", and whether an extension's value is of its type (rules 340+s).
-use Rattle.std.specs.Prelude.{Bool, ◌&&◌, List, ℕ, length}
+use Rattle.std.specs.Prelude.{Bool, ◌&&◌, List, ℕ, length, is_ok}
 use Rattle.asn.specs.Grammar.{Form, follows, is_fits}
 use Rattle.asn.specs.Grammar.Slots.{done, one}
 use Rattle.asn.specs.Module.{certificate, value_of}
@@ -7,7 +7,7 @@ use Rattle.asn.specs.declared.fitting.Verdict.{Verdict}
 use Rattle.asn.specs.declared.fitting.Verdict.TheVariants.{Stranger, Fits, Wrong}
 use Rattle.refusals.specs.Table.{not_certificate}
 use Rattle.der.specs.Header.{children_of}
-use Rattle.der.specs.Soundness.{stretch_soundness, is_sound}
+use Rattle.der.specs.Soundness.{stretch_soundness}
 
 -- the elements from at to end are one element of a type, and no more
 abbrev pub only_element : Form → List ℕ → ℕ → ℕ → Verdict
@@ -31,4 +31,4 @@ verdict_place (Wrong p) = p
 -- The octets from at to end are "exactly one sound element of its RFC ASN.1": sound DER, with SETs in order and depths from 1, and of the type
 -- that slot s of the table of extensions has.
 unfoldable pub value_ok : List ℕ → ℕ → ℕ → ℕ → Bool
-value_ok octets s at end = is_sound (stretch_soundness octets at end) && is_fits (only_element (value_of s) octets at end)
+value_ok octets s at end = is_ok (stretch_soundness octets at end) && is_fits (only_element (value_of s) octets at end)

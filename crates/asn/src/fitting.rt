@@ -209,7 +209,7 @@ pub fn check_certificate(s: &[u8]) -> Verdict
 pub fn value_ok(s: &[u8], slot: usize, at: usize, end: usize) -> bool
     ensures { result ≡ value_ok s.now slot at end }
 {
-    if der::is_sound(der::check_stretch(s, at, end)) {
+    if der::check_stretch(s, at, end).is_ok() {
         return is_fits(only_element(s, slot, at, end));
     }
     false

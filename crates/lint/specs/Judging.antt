@@ -1,15 +1,13 @@
 -- Refusals 1 to 6: "the first that applies, top to bottom"; "4, 5, 6 are tried on the certificate, then on the issuer" (document 01, "Refusals and
 -- their order").
-use Rattle.std.specs.Prelude.{Bool, cond, ◌&&◌, List, ℕ, leb, length}
+use Rattle.std.specs.Prelude.{Bool, cond, ◌&&◌, List, ℕ, leb, length, Ok, Err}
 use Rattle.lint.specs.declared.reasons.Side.{Side}
 use Rattle.lint.specs.declared.reasons.Side.TheVariants.{Certificate, Issuer}
 use Rattle.lint.specs.declared.reasons.Inadmissible.TheVariants.{CertificateLength, IssuerLength, UnknownProfile}
 use Rattle.lint.specs.declared.judging.Admission.{Admission}
 use Rattle.lint.specs.declared.judging.Judgement.{Judgement}
 use Rattle.lint.specs.declared.judging.Judgement.TheVariants.{Accepted, Refused}
-use Rattle.der.specs.Soundness.{der_soundness}
-use Rattle.der.specs.declared.walk.Soundness.{Soundness}
-use Rattle.der.specs.declared.walk.Soundness.TheVariants.{Sound, Unsound, Unordered}
+use Rattle.der.specs.Soundness.{der_soundness, Soundness}
 use Rattle.asn.specs.Answers.{certificate_verdict}
 use Rattle.asn.specs.declared.fitting.Verdict.{Verdict}
 use Rattle.asn.specs.declared.fitting.Verdict.TheVariants.{Stranger, Fits, Wrong}
@@ -19,6 +17,7 @@ use Rattle.profiles.specs.declared.fields.Asked.{Asked}
 use Rattle.profiles.specs.declared.fields.Asked.TheVariants.{For, Unknown}
 use Rattle.lint.specs.declared.reasons.Refusal.TheVariants as Refusals
 use Rattle.lint.specs.declared.judging.Admission.TheVariants as Admissions
+use Rattle.der.specs.declared.walk.Fault.TheVariants.{Unsound, Unordered}
 
 -- refusals 1 and 2 are for "0 or over 8,192 bytes"
 abbrev pub side_length_ok : ℕ → Bool
@@ -32,9 +31,9 @@ by_verdict p side Stranger = Refused (Refusals.NotCertificate side 0)
 
 -- 4 "not sound DER", 5 "a SET out of order", then 6
 abbrev pub by_soundness : Profile → Side → Soundness → Verdict → Judgement
-by_soundness p side Sound verdict = by_verdict p side verdict
-by_soundness p side (Unsound place) verdict = Refused (Refusals.Unsound side place)
-by_soundness p side (Unordered place) verdict = Refused (Refusals.Unordered side place)
+by_soundness p side (Ok tt) verdict = by_verdict p side verdict
+by_soundness p side (Err (Unsound place)) verdict = Refused (Refusals.Unsound side place)
+by_soundness p side (Err (Unordered place)) verdict = Refused (Refusals.Unordered side place)
 
 unfoldable pub side_judgement : Profile → Side → List ℕ → Judgement
 side_judgement p side s = by_soundness p side (der_soundness s) (certificate_verdict s)

@@ -4,7 +4,7 @@ ghost use Rattle.lint.specs.Judging.{side_length_ok, by_verdict, side_judgement,
 
 use crate::reasons::{Inadmissible, Refusal, Side};
 use asn::Verdict;
-use der::Soundness;
+use der::Fault;
 use profiles::{Asked, Profile};
 
 // What refusals 1 to 3 leave: a profile to go on for, or one of them.
@@ -39,14 +39,14 @@ fn by_verdict(p: Profile, side: Side, verdict: Verdict) -> Judgement
 }
 
 // Refusals 4, 5 and 6 of one side.
+#[tactic(auto, unfolding(crate::specs::Judging::side_judgement))]
 fn judge_side(p: Profile, side: Side, s: &[u8]) -> Judgement
     ensures { result ≡ side_judgement p side s.now }
 {
-    let found = der::check_der(s);
-    match found {
-        Soundness::Sound => by_verdict(p, side, asn::check_certificate(s)),
-        Soundness::Unsound(place) => Judgement::Refused(Refusal::Unsound(side, place)),
-        Soundness::Unordered(place) => Judgement::Refused(Refusal::Unordered(side, place)),
+    match der::check_der(s) {
+        Ok(()) => by_verdict(p, side, asn::check_certificate(s)),
+        Err(Fault::Unsound(place)) => Judgement::Refused(Refusal::Unsound(side, place)),
+        Err(Fault::Unordered(place)) => Judgement::Refused(Refusal::Unordered(side, place)),
     }
 }
 

@@ -11,8 +11,8 @@ use Rattle.asn.specs.Grammar.{is_fits}
 use Rattle.asn.specs.Module.{certificate, judged, value_of}
 use Rattle.asn.specs.Answers.{only_element, certificate_verdict, value_ok}
 use Rattle.asn.specs.declared.fitting.Verdict.{Verdict}
-use Rattle.der.specs.Soundness.{stretch_soundness, is_sound}
-use Rattle.der.specs.declared.walk.Soundness.{Soundness}
+use Rattle.der.specs.Soundness.{stretch_soundness, Soundness}
+use Rattle.std.specs.Prelude.{is_ok}
 
 first_judged : value_of 0 ≡ certificate
 unfolding value_of judged
@@ -23,7 +23,7 @@ unfolding certificate_verdict
 certificate_law s = rw first_judged
 
 -- `sound` is whether the stretch is sound DER with SETs in order
-module _ (s : List ℕ) (slot at end : ℕ) (found : Soundness) (sound : Bool) (f : found ≡ stretch_soundness s at end) (e : sound ≡ is_sound found) where
+module _ (s : List ℕ) (slot at end : ℕ) (found : Soundness) (sound : Bool) (f : found ≡ stretch_soundness s at end) (e : sound ≡ is_ok found) where
   pub value_some : (v : Verdict) (r : Bool) → sound ≡ true → v ≡ only_element (value_of slot) s at end → r ≡ is_fits v → r ≡ value_ok s slot at end
   unfolding value_ok
   value_some v r t g h = rw (← f, ← e, t, ← g, h)

@@ -16,12 +16,12 @@ use Rattle.der.specs.Header.{children_of}
 use Rattle.der.specs.Contents.{contents_of}
 use Rattle.der.specs.Elements.{elements_of, is_empty}
 use Rattle.der.specs.Soundness.{soundness, stretch_soundness}
-use Rattle.der.specs.declared.walk.Soundness.TheVariants.{Sound}
 use Rattle.der.specs.Tags.{sequence_tag}
 use Rattle.der.specs.declared.header.Head.{Head}
 use Rattle.times.specs.Reads.{time_of}
 use Rattle.times.specs.declared.reading.Reading.TheVariants.{Is}
 use Rattle.der.specs.Members.{members_in, missing, first_in}
+use Rattle.std.specs.Prelude.{Ok}
 
 -- the [0] comes first, if the version is written; else the serial number does
 pub data VersionNamed (version serial : Head) : List Head → Type 0 where
@@ -102,7 +102,7 @@ pub record ValueNamed (s : List ℕ) (slot : ℕ) (list : Head) (v : Slot) : Typ
   pub there : is_empty v.place ≡ false
   pub named : SlotNamed s slot list v
   pub sound : v.holder.sound ≡ true
-  pub filled : stretch_soundness s v.holder.body v.holder.end ≡ Sound
+  pub filled : stretch_soundness s v.holder.body v.holder.end ≡ Ok tt
   pub alone : members_in s v.holder ≡ v.element ∷ []
-  pub elements : soundness s (elements_of s 16 v.element) ≡ Sound
+  pub elements : soundness s (elements_of s 16 v.element) ≡ Ok tt
   pub element_fits : fits (value_of slot) s v.element ≡ Fits

@@ -23,9 +23,7 @@ use Rattle.lint.specs.declared.judging.Admission.{Admission}
 use Rattle.lint.specs.declared.judging.Judgement.{Judgement}
 use Rattle.lint.specs.declared.judging.Judgement.TheVariants.{Accepted, Refused}
 use Rattle.octets.proofs.Laws.Tests.{and_l, and_r}
-use Rattle.der.specs.Soundness.{der_soundness}
-use Rattle.der.specs.declared.walk.Soundness.{Soundness}
-use Rattle.der.specs.declared.walk.Soundness.TheVariants.{Sound, Unsound, Unordered}
+use Rattle.der.specs.Soundness.{der_soundness, Soundness}
 use Rattle.asn.specs.Answers.{certificate_verdict}
 use Rattle.asn.specs.declared.fitting.Verdict.{Verdict}
 use Rattle.asn.specs.declared.fitting.Verdict.TheVariants.{Stranger, Fits, Wrong}
@@ -34,6 +32,8 @@ use Rattle.profiles.specs.declared.fields.Profile.{Profile}
 use Rattle.profiles.specs.declared.fields.Asked.{Asked}
 use Rattle.profiles.specs.declared.fields.Asked.TheVariants.{For, Unknown}
 use Rattle.lint.specs.declared.judging.Admission.TheVariants as Admissions
+use Rattle.der.specs.declared.walk.Fault.TheVariants.{Unsound, Unordered}
+use Rattle.std.specs.Prelude.{Ok, Err}
 
 -- what is refused is not accepted
 refused : (r : Refusal) (p : Profile) → Refused r ≡ Accepted p → ⊥
@@ -67,9 +67,9 @@ verdict_fits q p side (Wrong place) e = absurd (refused _ p e)
 verdict_fits q p side Stranger e = absurd (refused _ p e)
 
 sound_fits : (q p : Profile) (side : Side) (d : Soundness) (v : Verdict) → by_soundness q side d v ≡ Accepted p → v ≡ Fits
-sound_fits q p side Sound v e = verdict_fits q p side v e
-sound_fits q p side (Unsound place) v e = absurd (refused _ p e)
-sound_fits q p side (Unordered place) v e = absurd (refused _ p e)
+sound_fits q p side (Ok tt) v e = verdict_fits q p side v e
+sound_fits q p side (Err (Unsound place)) v e = absurd (refused _ p e)
+sound_fits q p side (Err (Unordered place)) v e = absurd (refused _ p e)
 
 side_fits : (q p : Profile) (side : Side) (s : List ℕ) → side_judgement q side s ≡ Accepted p → certificate_verdict s ≡ Fits
 unfolding side_judgement
@@ -112,9 +112,9 @@ verdict_only q side (Wrong place) = tt
 verdict_only q side Stranger = tt
 
 sound_only : (q : Profile) (side : Side) (d : Soundness) (v : Verdict) → OnlyFor q (by_soundness q side d v)
-sound_only q side Sound v = verdict_only q side v
-sound_only q side (Unsound place) v = tt
-sound_only q side (Unordered place) v = tt
+sound_only q side (Ok tt) v = verdict_only q side v
+sound_only q side (Err (Unsound place)) v = tt
+sound_only q side (Err (Unordered place)) v = tt
 
 else_only : (q : Profile) (a b : Judgement) → OnlyFor q b → OnlyFor q (or_else a b)
 else_only q (Refused r) b k = tt

@@ -25,9 +25,7 @@ use Rattle.lint.specs.declared.judging.Admission.{Admission}
 use Rattle.lint.specs.declared.judging.Judgement.{Judgement}
 use Rattle.lint.specs.declared.linting.Answer.{Answer}
 use Rattle.lint.specs.declared.linting.Answer.TheVariants.{Report, Refused}
-use Rattle.der.specs.Soundness.{der_soundness, soundness_place}
-use Rattle.der.specs.declared.walk.Soundness.{Soundness}
-use Rattle.der.specs.declared.walk.Soundness.TheVariants.{Sound, Unsound, Unordered}
+use Rattle.der.specs.Soundness.{der_soundness, soundness_place, Soundness}
 use Rattle.der.specs.Elements.{ElementStart}
 use Rattle.der.proofs.Laws.Places.{start_inside, fault_start}
 use Rattle.der.proofs.Laws.Walks.{sound_stretch}
@@ -44,6 +42,8 @@ use Rattle.lint.proofs.Laws.Accepted.{admitted_certificate, admitted_issuer}
 use Rattle.lint.specs.declared.reasons.Refusal.TheVariants as Refusals
 use Rattle.lint.specs.declared.judging.Admission.TheVariants as Admissions
 use Rattle.lint.specs.declared.judging.Judgement.TheVariants as Judgements
+use Rattle.der.specs.declared.walk.Fault.TheVariants.{Unsound, Unordered}
+use Rattle.std.specs.Prelude.{Ok, Err}
 
 -- ---- refusals 1, 2 and 3
 
@@ -80,13 +80,13 @@ module _ (certificate issuer : List ℕ) where
         go (der_soundness octets) (certificate_verdict octets) (starting (fault_start octets))
         (λ e. starting (departure_start octets l (sound_stretch octets 0 (length octets) e).0)) refl
       where
-        go : (d : Soundness) (v : Verdict) → StartWithin octets (soundness_place d) → (der_soundness octets ≡ Sound → StartWithin octets (verdict_place v))
+        go : (d : Soundness) (v : Verdict) → StartWithin octets (soundness_place d) → (der_soundness octets ≡ Ok tt → StartWithin octets (verdict_place v))
             → der_soundness octets ≡ d → PlacedBy (by_soundness p side d v)
-        go Sound Fits f g e = tt
-        go Sound (Wrong place) f g e = record { within = g e; low = low (g e) }
-        go Sound Stranger f g e = record { within = g e; low = low (g e) }
-        go (Unsound place) v f g e = record { within = f; low = low f }
-        go (Unordered place) v f g e = record { within = f; low = low f }
+        go (Ok tt) Fits f g e = tt
+        go (Ok tt) (Wrong place) f g e = record { within = g e; low = low (g e) }
+        go (Ok tt) Stranger f g e = record { within = g e; low = low (g e) }
+        go (Err (Unsound place)) v f g e = record { within = f; low = low f }
+        go (Err (Unordered place)) v f g e = record { within = f; low = low f }
 
   first_placed : (a b : Judgement) → PlacedBy a → PlacedBy b → PlacedBy (or_else a b)
   first_placed (Judgements.Refused r) b k l = k

@@ -29,8 +29,7 @@ use Rattle.refusals.specs.Table.{not_sound_der, set_out_of_order, not_certificat
 use Rattle.refusals.specs.Table.{unknown_profile, on_neither, on_certificate, on_issuer, unrefused, RefusalRow, refusal_row, first_that_applies}
 use Rattle.refusals.specs.declared.table.Values.{Values}
 use Rattle.refusals.proofs.Laws.Table.{Tabled, tabled}
-use Rattle.der.specs.Soundness.{der_soundness}
-use Rattle.der.specs.declared.walk.Soundness.{Soundness}
+use Rattle.der.specs.Soundness.{der_soundness, Soundness}
 use Rattle.asn.specs.Answers.{certificate_verdict}
 use Rattle.asn.specs.declared.fitting.Verdict.{Verdict}
 use Rattle.asn.specs.declared.fitting.Verdict.TheVariants.{Stranger, Fits, Wrong}
@@ -41,10 +40,11 @@ use Rattle.profiles.specs.declared.fields.Asked.TheVariants.{For, Unknown}
 use Rattle.report.specs.Answers.{enough_room}
 use Rattle.report.specs.declared.sink.Entry.{Entry}
 use Rattle.rules.specs.Rules.{findings}
-use Rattle.der.specs.declared.walk.Soundness.TheVariants as Soundnesses
+use Rattle.der.specs.declared.walk.Fault.TheVariants as Faults
 use Rattle.lint.specs.declared.reasons.Inadmissible as Reason
 use Rattle.lint.specs.declared.judging.Admission.TheVariants as Admissions
 use Rattle.lint.specs.declared.judging.Judgement.TheVariants as Judgements
+use Rattle.std.specs.Prelude.{Ok, Err}
 
 -- ---- refusals 1, 2 and 3
 
@@ -85,11 +85,11 @@ side_values p side s below rest otherwise e = go (der_soundness s) (certificate_
   where
     go : (d : Soundness) (v : Verdict)
         → judgement_values (by_soundness p side d v) below ≡ first_that_applies (found_table (side_number side) d v ++ rest) otherwise
-    go (Soundnesses.Unsound place) v = refl
-    go (Soundnesses.Unordered place) v = refl
-    go Soundnesses.Sound Fits = e
-    go Soundnesses.Sound (Wrong place) = refl
-    go Soundnesses.Sound Stranger = refl
+    go (Err (Faults.Unsound place)) v = refl
+    go (Err (Faults.Unordered place)) v = refl
+    go (Ok tt) Fits = e
+    go (Ok tt) (Wrong place) = refl
+    go (Ok tt) Stranger = refl
 
 else_values : (a b : Judgement) (below : Profile → Values)
     → judgement_values (or_else a b) below ≡ judgement_values a (λ p. judgement_values b below)
