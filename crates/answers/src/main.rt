@@ -28,15 +28,15 @@ mod lines;
 
 ghost use Rattle.std.specs.Prelude.{◌≡◌, length};
 
-use asn::Verdict;
+use asn::Misfit;
 use der::Fault;
 use std::io::{Print, Read};
 
-fn answer_form(output: &impl Print, found: Verdict) {
+fn answer_form(output: &impl Print, found: Result<(), Misfit>) {
     match found {
-        Verdict::Fits => lines::put_out(output, b"certificate\n"),
-        Verdict::Wrong(place) => lines::say(output, b"departs at ", place),
-        Verdict::Stranger => lines::say(output, b"departs at ", 0),
+        Ok(()) => lines::put_out(output, b"certificate\n"),
+        Err(Misfit::Wrong(place)) => lines::say(output, b"departs at ", place),
+        Err(Misfit::Stranger) => lines::say(output, b"departs at ", 0),
     }
 }
 

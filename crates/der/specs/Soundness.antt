@@ -56,11 +56,11 @@ der_soundness s = stretch_soundness s 0 (length s)
 
 -- The paper's number and place for each case. (0 is no refusal.)
 abbrev pub soundness_number : Soundness → ℕ
-soundness_number (Ok tt) = 0
+soundness_number (Ok _) = 0
 soundness_number (Err (Unsound p)) = not_sound_der
 soundness_number (Err (Unordered p)) = set_out_of_order
 
 abbrev pub soundness_place : Soundness → ℕ
-soundness_place (Ok tt) = 0
+soundness_place (Ok _) = 0
 soundness_place (Err (Unsound p)) = p
 soundness_place (Err (Unordered p)) = p

@@ -9,8 +9,6 @@ use Rattle.lint.specs.declared.judging.Judgement.{Judgement}
 use Rattle.lint.specs.declared.judging.Judgement.TheVariants.{Accepted, Refused}
 use Rattle.der.specs.Soundness.{der_soundness, Soundness}
 use Rattle.asn.specs.Answers.{certificate_verdict}
-use Rattle.asn.specs.declared.fitting.Verdict.{Verdict}
-use Rattle.asn.specs.declared.fitting.Verdict.TheVariants.{Stranger, Fits, Wrong}
 use Rattle.profiles.specs.Fields.{asked_of}
 use Rattle.profiles.specs.declared.fields.Profile.{Profile}
 use Rattle.profiles.specs.declared.fields.Asked.{Asked}
@@ -18,6 +16,8 @@ use Rattle.profiles.specs.declared.fields.Asked.TheVariants.{For, Unknown}
 use Rattle.lint.specs.declared.reasons.Refusal.TheVariants as Refusals
 use Rattle.lint.specs.declared.judging.Admission.TheVariants as Admissions
 use Rattle.der.specs.declared.walk.Fault.TheVariants.{Unsound, Unordered}
+use Rattle.asn.specs.Grammar.{Verdict}
+use Rattle.asn.specs.declared.fitting.Misfit.TheVariants.{Stranger, Wrong}
 
 -- refusals 1 and 2 are for "0 or over 8,192 bytes"
 abbrev pub side_length_ok : ℕ → Bool
@@ -25,13 +25,13 @@ side_length_ok n = leb 1 n && leb n 8192
 
 -- 6 "not a certificate". (A list of elements is never a stranger.)
 abbrev pub by_verdict : Profile → Side → Verdict → Judgement
-by_verdict p side Fits = Accepted p
-by_verdict p side (Wrong place) = Refused (Refusals.NotCertificate side place)
-by_verdict p side Stranger = Refused (Refusals.NotCertificate side 0)
+by_verdict p side (Ok _) = Accepted p
+by_verdict p side (Err (Wrong place)) = Refused (Refusals.NotCertificate side place)
+by_verdict p side (Err Stranger) = Refused (Refusals.NotCertificate side 0)
 
 -- 4 "not sound DER", 5 "a SET out of order", then 6
 abbrev pub by_soundness : Profile → Side → Soundness → Verdict → Judgement
-by_soundness p side (Ok tt) verdict = by_verdict p side verdict
+by_soundness p side (Ok _) verdict = by_verdict p side verdict
 by_soundness p side (Err (Unsound place)) verdict = Refused (Refusals.Unsound side place)
 by_soundness p side (Err (Unordered place)) verdict = Refused (Refusals.Unordered side place)
 

@@ -6,13 +6,13 @@ use Rattle.refusals.specs.Table.{on_neither, on_certificate, on_issuer, unrefuse
 use Rattle.refusals.specs.declared.table.Values.{Values}
 use Rattle.der.specs.Soundness.{der_soundness, soundness_number, soundness_place, Soundness}
 use Rattle.asn.specs.Answers.{certificate_verdict, verdict_number, verdict_place}
-use Rattle.asn.specs.declared.fitting.Verdict.{Verdict}
 use Rattle.profiles.specs.Fields.{asked_of}
 use Rattle.profiles.specs.declared.fields.Asked.{Asked}
 use Rattle.profiles.specs.declared.fields.Asked.TheVariants.{For, Unknown}
 use Rattle.report.specs.Answers.{enough_room}
 use Rattle.report.specs.declared.sink.Entry.{Entry}
 use Rattle.rules.specs.Rules.{findings}
+use Rattle.asn.specs.Grammar.{Verdict}
 
 abbrev pub is_unknown : Asked → Bool
 is_unknown Unknown = true

@@ -3,7 +3,7 @@ ghost use Rattle.std.specs.Prelude.{◌≡◌};
 ghost use Rattle.lint.specs.Judging.{side_length_ok, by_verdict, side_judgement, both_sides, admission_of, judgement_of};
 
 use crate::reasons::{Inadmissible, Refusal, Side};
-use asn::Verdict;
+use asn::Misfit;
 use der::Fault;
 use profiles::{Asked, Profile};
 
@@ -28,13 +28,13 @@ fn side_length_ok(n: usize) -> bool
 }
 
 // Refusal 6, of a side that is sound DER.
-fn by_verdict(p: Profile, side: Side, verdict: Verdict) -> Judgement
+fn by_verdict(p: Profile, side: Side, verdict: Result<(), Misfit>) -> Judgement
     ensures { result ≡ by_verdict p side verdict }
 {
     match verdict {
-        Verdict::Fits => Judgement::Accepted(p),
-        Verdict::Wrong(place) => Judgement::Refused(Refusal::NotCertificate(side, place)),
-        Verdict::Stranger => Judgement::Refused(Refusal::NotCertificate(side, 0)),
+        Ok(()) => Judgement::Accepted(p),
+        Err(Misfit::Wrong(place)) => Judgement::Refused(Refusal::NotCertificate(side, place)),
+        Err(Misfit::Stranger) => Judgement::Refused(Refusal::NotCertificate(side, 0)),
     }
 }
 

@@ -27,7 +27,7 @@ unfolding tree_examples word parse tree_of trees_of head_of children_of children
     packed unused oid subidentifiers subidentifier sevens
 parsed = refl
 
-pub judged : map (λ (e : TreeExample). der_soundness e.octets) tree_examples ≡ map (λ (e : TreeExample). (Ok tt)) tree_examples
+pub judged : map (λ (e : TreeExample). der_soundness e.octets) tree_examples ≡ map (λ (e : TreeExample). Ok tt) tree_examples
 unfolding tree_examples word stretch_soundness soundness first elements_of element_ok primitive_ok arcs_ok ascend_from octets_le head_of children_of children_by
     octets_from number_from
 judged = refl

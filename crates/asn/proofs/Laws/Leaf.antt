@@ -4,7 +4,6 @@
 --     positive_law    an INTEGER from 1
 --     named_law       a named bit list
 --     no_bit          an octet has no bit past its eighth
---     test_other      a test that asks nothing
 -- Assumes nothing.
 use mathlib.Core.Path.{◌≡◌, refl, sym, ap, ◌∙◌}
 use mathlib.Core.List.{List}
@@ -15,8 +14,7 @@ use native.Mathlib.Omega.{arith}
 use lib.Pow.{pow_mono}
 use lib.Dec.{eqb, ltb}
 use borrow.Author.Tests.{ne_eqb}
-use Rattle.asn.specs.Grammar.{Test, one_octet, natural_ok, positive_ok, named_ok}
-use Rattle.asn.specs.Workings.Table.{test_at}
+use Rattle.asn.specs.Grammar.{one_octet, natural_ok, positive_ok, named_ok}
 use Rattle.octets.specs.Octets.{octet_at, octets_from}
 use Rattle.der.specs.Contents.{last_of, primitive_ok}
 use Rattle.der.proofs.Laws.Contents.{last_law}
@@ -50,9 +48,3 @@ named_law s body (suc (suc n)) unused last good bit u l b g =
 
 pub no_bit : (b k : ℕ) → b < 256 → 8 ≤ k → false ≡ eqb (b / 2 ^ k % 2) 1
 no_bit b k h l = rw (div-eq_of_lt (lt_of_lt_of_le h (pow_mono l)))
-
-pub test_other : (t : ℕ) → (t ≡ 2 → ⊥) → (t ≡ 3 → ⊥) → (t ≡ 4 → ⊥) → (t ≡ 5 → ⊥) → (t ≡ 6 → ⊥) → (t ≡ 7 → ⊥) → (t ≡ 8 → ⊥)
-    → (t ≡ 9 → ⊥) → (t ≡ 10 → ⊥) → (t ≡ 11 → ⊥) → (t ≡ 12 → ⊥) → test_at t ≡ Test.free
-test_other t a b c d e f g h i j k =
-    let no = ne_eqb t in
-    rw (no 2 a, no 3 b, no 4 c, no 5 d, no 6 e, no 7 f, no 8 g, no 9 h, no 10 i, no 11 j, no 12 k)

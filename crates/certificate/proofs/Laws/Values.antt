@@ -30,11 +30,8 @@ use Rattle.der.proofs.Laws.Header.{head_narrow, head_held}
 use Rattle.der.proofs.Laws.Children.{children_done}
 use Rattle.der.proofs.Laws.Searching.{children_full, missing_empty, first_missing, first_among, first_passes}
 use Rattle.der.proofs.Laws.Walks.{ok_alone, sound_stretch}
-use Rattle.asn.specs.Grammar.{is_fits}
 use Rattle.asn.specs.Module.{value_of}
 use Rattle.asn.specs.Answers.{only_element, value_ok}
-use Rattle.asn.specs.declared.fitting.Verdict.{Verdict}
-use Rattle.asn.specs.declared.fitting.Verdict.TheVariants.{Stranger, Fits, Wrong}
 use Rattle.asn.proofs.Laws.Fields.{one_fits, done_fits}
 use Rattle.certificate.proofs.Laws.Named.{stands_here}
 use Rattle.certificate.proofs.Laws.Slots.{unread, by_slot_at, by_slot_same}
@@ -129,19 +126,14 @@ read_sound s end h r b =
     let held : (head_of s r.place end).body < (head_of s r.place end).end = rw (← r.is) b in
     ap (λ (y : Head). y.sound) r.is ∙ head_held s r.place end held
 
-is_fits_lem : (v : Verdict) → is_fits v ≡ true → v ≡ Fits
-is_fits_lem Stranger e = cc
-is_fits_lem Fits e = refl
-is_fits_lem (Wrong p) e = cc
-
 module _ (s : List ℕ) (slot : ℕ) (h : Head) (e : value_ok s slot h.body h.end ≡ true) where
   whole_value : stretch_soundness s h.body h.end ≡ Ok tt
   unfolding value_ok
   whole_value = ok_alone _ (and_l (is_ok (stretch_soundness s h.body h.end)) _ e)
 
-  one_value : only_element (value_of slot) s h.body h.end ≡ Fits
+  one_value : only_element (value_of slot) s h.body h.end ≡ Ok tt
   unfolding value_ok
-  one_value = is_fits_lem _ (and_r (is_ok (stretch_soundness s h.body h.end)) _ e)
+  one_value = ok_alone _ (and_r (is_ok (stretch_soundness s h.body h.end)) _ e)
 
   held_value : h.body < h.end
   held_value = go (ltb h.body h.end) refl

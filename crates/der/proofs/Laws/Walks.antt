@@ -33,20 +33,20 @@ use Rattle.der.proofs.Laws.Children.{children_done, children_next}
 
 -- where nothing is wrong there is one answer
 pub ok_alone : {E : Type 0} (v : Result (Unit {0}) E) → is_ok v ≡ true → v ≡ Ok tt
-ok_alone (Ok tt) e = refl
+ok_alone (Ok _) e = refl
 ok_alone (Err p) e = cc
 
 pub then_sound : (a : Soundness) → and_then a (Ok tt) ≡ a
-then_sound (Ok tt) = refl
+then_sound (Ok _) = refl
 then_sound (Err (Unsound p)) = refl
 then_sound (Err (Unordered p)) = refl
 
 pub then_assoc : (a b c : Soundness) → and_then a (and_then b c) ≡ and_then (and_then a b) c
-then_assoc (Ok tt) b c = refl
+then_assoc (Ok _) b c = refl
 then_assoc (Err (Unsound p)) b c = refl
-then_assoc (Err (Unordered p)) (Ok tt) c = refl
+then_assoc (Err (Unordered p)) (Ok _) c = refl
 then_assoc (Err (Unordered p)) (Err (Unsound q)) c = refl
-then_assoc (Err (Unordered p)) (Err (Unordered q)) (Ok tt) = refl
+then_assoc (Err (Unordered p)) (Err (Unordered q)) (Ok _) = refl
 then_assoc (Err (Unordered p)) (Err (Unordered q)) (Err (Unsound r)) = refl
 then_assoc (Err (Unordered p)) (Err (Unordered q)) (Err (Unordered r)) = refl
 
@@ -181,7 +181,7 @@ module _ (s : List ℕ) (depth at : ℕ) (set : Bool) (body end : ℕ) where
 
 -- a walk's answer is the same, whether or not it is asked where nothing is wrong
 pub then_if : (a v next : Soundness) (t : Bool) → t ≡ is_err v → t ≡ false → next ≡ a → next ≡ and_then a v
-then_if a (Ok tt) next t e f g = g ∙ sym (then_sound a)
+then_if a (Ok _) next t e f g = g ∙ sym (then_sound a)
 then_if a (Err (Unsound p)) next t e f g = cc
 then_if a (Err (Unordered p)) next t e f g = cc
 
@@ -206,9 +206,9 @@ module _ (s : List ℕ) (at end : ℕ) where
 -- ---- what it says of the elements that nothing is wrong
 
 pub then_parts : (a b : Soundness) → and_then a b ≡ Ok tt → (a ≡ Ok tt) × (b ≡ Ok tt)
-then_parts (Ok tt) b e = (refl, e)
+then_parts (Ok _) b e = (refl, e)
 then_parts (Err (Unsound p)) b e = (e, cc)
-then_parts (Err (Unordered p)) (Ok tt) e = (e, refl)
+then_parts (Err (Unordered p)) (Ok _) e = (e, refl)
 then_parts (Err (Unordered p)) (Err (Unsound q)) e = (cc, e)
 then_parts (Err (Unordered p)) (Err (Unordered q)) e = (e, cc)
 

@@ -13,9 +13,9 @@ members_of s levels at end = joined (elements_of s levels) (children_of s at end
 
 -- what two lists of elements give, one behind the other
 abbrev pub and_then : Soundness → Soundness → Soundness
-and_then (Ok tt) b = b
+and_then (Ok _) b = b
 and_then (Err (Unsound p)) b = Err (Unsound p)
-and_then (Err (Unordered p)) (Ok tt) = Err (Unordered p)
+and_then (Err (Unordered p)) (Ok _) = Err (Unordered p)
 and_then (Err (Unordered p)) (Err (Unsound q)) = Err (Unsound q)
 and_then (Err (Unordered p)) (Err (Unordered q)) = Err (Unordered p)
 

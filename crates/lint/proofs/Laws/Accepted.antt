@@ -25,8 +25,6 @@ use Rattle.lint.specs.declared.judging.Judgement.TheVariants.{Accepted, Refused}
 use Rattle.octets.proofs.Laws.Tests.{and_l, and_r}
 use Rattle.der.specs.Soundness.{der_soundness, Soundness}
 use Rattle.asn.specs.Answers.{certificate_verdict}
-use Rattle.asn.specs.declared.fitting.Verdict.{Verdict}
-use Rattle.asn.specs.declared.fitting.Verdict.TheVariants.{Stranger, Fits, Wrong}
 use Rattle.profiles.specs.Fields.{asked_of}
 use Rattle.profiles.specs.declared.fields.Profile.{Profile}
 use Rattle.profiles.specs.declared.fields.Asked.{Asked}
@@ -34,6 +32,8 @@ use Rattle.profiles.specs.declared.fields.Asked.TheVariants.{For, Unknown}
 use Rattle.lint.specs.declared.judging.Admission.TheVariants as Admissions
 use Rattle.der.specs.declared.walk.Fault.TheVariants.{Unsound, Unordered}
 use Rattle.std.specs.Prelude.{Ok, Err}
+use Rattle.asn.specs.Grammar.{Verdict}
+use Rattle.asn.specs.declared.fitting.Misfit.TheVariants.{Stranger, Wrong}
 
 -- what is refused is not accepted
 refused : (r : Refusal) (p : Profile) → Refused r ≡ Accepted p → ⊥
@@ -61,17 +61,17 @@ module _ (certificate issuer profile : ℕ) (p : Profile) (e : admission_of cert
   unfolding admission_of
   admitted_issuer = sized issuer (passed (side_length_ok issuer) _ _ p (passed (side_length_ok certificate) _ _ p e).1).0
 
-verdict_fits : (q p : Profile) (side : Side) (v : Verdict) → by_verdict q side v ≡ Accepted p → v ≡ Fits
-verdict_fits q p side Fits e = refl
-verdict_fits q p side (Wrong place) e = absurd (refused _ p e)
-verdict_fits q p side Stranger e = absurd (refused _ p e)
+verdict_fits : (q p : Profile) (side : Side) (v : Verdict) → by_verdict q side v ≡ Accepted p → v ≡ Ok tt
+verdict_fits q p side (Ok _) e = refl
+verdict_fits q p side (Err (Wrong place)) e = absurd (refused _ p e)
+verdict_fits q p side (Err Stranger) e = absurd (refused _ p e)
 
-sound_fits : (q p : Profile) (side : Side) (d : Soundness) (v : Verdict) → by_soundness q side d v ≡ Accepted p → v ≡ Fits
-sound_fits q p side (Ok tt) v e = verdict_fits q p side v e
+sound_fits : (q p : Profile) (side : Side) (d : Soundness) (v : Verdict) → by_soundness q side d v ≡ Accepted p → v ≡ Ok tt
+sound_fits q p side (Ok _) v e = verdict_fits q p side v e
 sound_fits q p side (Err (Unsound place)) v e = absurd (refused _ p e)
 sound_fits q p side (Err (Unordered place)) v e = absurd (refused _ p e)
 
-side_fits : (q p : Profile) (side : Side) (s : List ℕ) → side_judgement q side s ≡ Accepted p → certificate_verdict s ≡ Fits
+side_fits : (q p : Profile) (side : Side) (s : List ℕ) → side_judgement q side s ≡ Accepted p → certificate_verdict s ≡ Ok tt
 unfolding side_judgement
 side_fits q p side s e = sound_fits q p side (der_soundness s) (certificate_verdict s) e
 
@@ -81,7 +81,7 @@ first_accepts (Accepted q) b p e = (q, refl)
 
 -- what is accepted was admitted, and then neither side was refused
 admitted : (a : Admission) (p : Profile) (s issuer : List ℕ) → once_admitted a s issuer ≡ Accepted p
-    → (q : Profile) × (a ≡ Admissions.Admitted q) × (certificate_verdict s ≡ Fits)
+    → (q : Profile) × (a ≡ Admissions.Admitted q) × (certificate_verdict s ≡ Ok tt)
 unfolding both_sides
 admitted (Admissions.Refused r) p s issuer e = absurd (refused _ p e)
 admitted (Admissions.Admitted q) p s issuer e =
@@ -89,7 +89,7 @@ admitted (Admissions.Admitted q) p s issuer e =
     (q, refl, side_fits q f.0 Certificate s f.1)
 
 module _ (s issuer : List ℕ) (profile : ℕ) (p : Profile) (e : judgement_of s issuer profile ≡ Accepted p) where
-  pub accepted_fits : certificate_verdict s ≡ Fits
+  pub accepted_fits : certificate_verdict s ≡ Ok tt
   unfolding judgement_of
   accepted_fits = (admitted (admission_of (length s) (length issuer) profile) p s issuer e).2
 
@@ -107,12 +107,12 @@ OnlyFor q (Refused r) = Unit {0}
 OnlyFor q (Accepted p) = q ≡ p
 
 verdict_only : (q : Profile) (side : Side) (v : Verdict) → OnlyFor q (by_verdict q side v)
-verdict_only q side Fits = refl
-verdict_only q side (Wrong place) = tt
-verdict_only q side Stranger = tt
+verdict_only q side (Ok _) = refl
+verdict_only q side (Err (Wrong place)) = tt
+verdict_only q side (Err Stranger) = tt
 
 sound_only : (q : Profile) (side : Side) (d : Soundness) (v : Verdict) → OnlyFor q (by_soundness q side d v)
-sound_only q side (Ok tt) v = verdict_only q side v
+sound_only q side (Ok _) v = verdict_only q side v
 sound_only q side (Err (Unsound place)) v = tt
 sound_only q side (Err (Unordered place)) v = tt
 

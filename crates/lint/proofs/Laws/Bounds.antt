@@ -30,8 +30,6 @@ use Rattle.der.specs.Elements.{ElementStart}
 use Rattle.der.proofs.Laws.Places.{start_inside, fault_start}
 use Rattle.der.proofs.Laws.Walks.{sound_stretch}
 use Rattle.asn.specs.Answers.{certificate_verdict, verdict_place}
-use Rattle.asn.specs.declared.fitting.Verdict.{Verdict}
-use Rattle.asn.specs.declared.fitting.Verdict.TheVariants.{Stranger, Fits, Wrong}
 use Rattle.asn.proofs.Laws.Places.{departure_start}
 use Rattle.profiles.specs.declared.fields.Profile.{Profile}
 use Rattle.report.specs.Entries.{width}
@@ -44,6 +42,8 @@ use Rattle.lint.specs.declared.judging.Admission.TheVariants as Admissions
 use Rattle.lint.specs.declared.judging.Judgement.TheVariants as Judgements
 use Rattle.der.specs.declared.walk.Fault.TheVariants.{Unsound, Unordered}
 use Rattle.std.specs.Prelude.{Ok, Err}
+use Rattle.asn.specs.Grammar.{Verdict}
+use Rattle.asn.specs.declared.fitting.Misfit.TheVariants.{Stranger, Wrong}
 
 -- ---- refusals 1, 2 and 3
 
@@ -82,9 +82,9 @@ module _ (certificate issuer : List ℕ) where
       where
         go : (d : Soundness) (v : Verdict) → StartWithin octets (soundness_place d) → (der_soundness octets ≡ Ok tt → StartWithin octets (verdict_place v))
             → der_soundness octets ≡ d → PlacedBy (by_soundness p side d v)
-        go (Ok tt) Fits f g e = tt
-        go (Ok tt) (Wrong place) f g e = record { within = g e; low = low (g e) }
-        go (Ok tt) Stranger f g e = record { within = g e; low = low (g e) }
+        go (Ok _) (Ok _) f g e = tt
+        go (Ok _) (Err (Wrong place)) f g e = record { within = g e; low = low (g e) }
+        go (Ok _) (Err Stranger) f g e = record { within = g e; low = low (g e) }
         go (Err (Unsound place)) v f g e = record { within = f; low = low f }
         go (Err (Unordered place)) v f g e = record { within = f; low = low f }
 

@@ -31,8 +31,6 @@ use Rattle.refusals.specs.declared.table.Values.{Values}
 use Rattle.refusals.proofs.Laws.Table.{Tabled, tabled}
 use Rattle.der.specs.Soundness.{der_soundness, Soundness}
 use Rattle.asn.specs.Answers.{certificate_verdict}
-use Rattle.asn.specs.declared.fitting.Verdict.{Verdict}
-use Rattle.asn.specs.declared.fitting.Verdict.TheVariants.{Stranger, Fits, Wrong}
 use Rattle.profiles.specs.Fields.{asked_of}
 use Rattle.profiles.specs.declared.fields.Profile.{Profile}
 use Rattle.profiles.specs.declared.fields.Asked.{Asked}
@@ -45,6 +43,8 @@ use Rattle.lint.specs.declared.reasons.Inadmissible as Reason
 use Rattle.lint.specs.declared.judging.Admission.TheVariants as Admissions
 use Rattle.lint.specs.declared.judging.Judgement.TheVariants as Judgements
 use Rattle.std.specs.Prelude.{Ok, Err}
+use Rattle.asn.specs.Grammar.{Verdict}
+use Rattle.asn.specs.declared.fitting.Misfit.TheVariants.{Stranger, Wrong}
 
 -- ---- refusals 1, 2 and 3
 
@@ -87,9 +87,9 @@ side_values p side s below rest otherwise e = go (der_soundness s) (certificate_
         → judgement_values (by_soundness p side d v) below ≡ first_that_applies (found_table (side_number side) d v ++ rest) otherwise
     go (Err (Faults.Unsound place)) v = refl
     go (Err (Faults.Unordered place)) v = refl
-    go (Ok tt) Fits = e
-    go (Ok tt) (Wrong place) = refl
-    go (Ok tt) Stranger = refl
+    go (Ok _) (Ok _) = e
+    go (Ok _) (Err (Wrong place)) = refl
+    go (Ok _) (Err Stranger) = refl
 
 else_values : (a b : Judgement) (below : Profile → Values)
     → judgement_values (or_else a b) below ≡ judgement_values a (λ p. judgement_values b below)

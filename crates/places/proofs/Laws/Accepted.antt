@@ -8,7 +8,6 @@ use native.Mathlib.Omega.{arith}
 use lib.ListN.{length}
 use Rattle.der.specs.Soundness.{der_soundness, Soundness}
 use Rattle.asn.specs.Answers.{certificate_verdict}
-use Rattle.asn.specs.declared.fitting.Verdict.{Verdict}
 use Rattle.profiles.specs.declared.fields.Profile.{Profile}
 use Rattle.lint.specs.Judging.{by_soundness, side_judgement, or_else, both_sides, admission_of, once_admitted, judgement_of}
 use Rattle.lint.specs.declared.reasons.Refusal.{Refusal}
@@ -19,6 +18,7 @@ use Rattle.lint.specs.declared.judging.Judgement.TheVariants.{Accepted, Refused}
 use Rattle.lint.specs.declared.judging.Admission.TheVariants as Admissions
 use Rattle.der.specs.declared.walk.Fault.TheVariants.{Unsound, Unordered}
 use Rattle.std.specs.Prelude.{Ok, Err}
+use Rattle.asn.specs.Grammar.{Verdict}
 
 refused : (r : Refusal) (p : Profile) → Refused r ≡ Accepted p → ⊥
 refused r p e =
@@ -28,7 +28,7 @@ refused r p e =
 module _ (p : Profile) where
   side_sound : (q : Profile) (d : Soundness) (v : Verdict) (other : Judgement)
       → or_else (by_soundness q Certificate d v) other ≡ Accepted p → d ≡ Ok tt
-  side_sound q (Ok tt) v other e = refl
+  side_sound q (Ok _) v other e = refl
   side_sound q (Err (Unsound place)) v other e = absurd (refused _ p e)
   side_sound q (Err (Unordered place)) v other e = absurd (refused _ p e)
 

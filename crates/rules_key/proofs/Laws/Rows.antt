@@ -22,7 +22,6 @@ use Rattle.der.specs.Soundness.{stretch_soundness}
 use Rattle.der.specs.declared.header.Head.{Head}
 use Rattle.der.proofs.Laws.Header.{head_narrow}
 use Rattle.asn.specs.Answers.{certificate_verdict}
-use Rattle.asn.specs.declared.fitting.Verdict.TheVariants.{Fits}
 use Rattle.numbers.specs.Numbers.{modulus_ok, long_modulus, exponent_ok}
 use Rattle.primes.specs.Primes.{primes_below, free_of}
 use Rattle.profiles.specs.declared.fields.Profile.{Profile}
@@ -38,7 +37,7 @@ use Rattle.report.proofs.Terms.Rows.{RowOk, RowsOk}
 use Rattle.report.proofs.Terms.Rows.RowsOk.{no_rows, more_rows}
 use Rattle.report.proofs.Laws.Rows.{at_ok}
 use Rattle.rules_key.proofs.Laws.Bits.{rsa_members}
-use Rattle.std.specs.Prelude.{is_ok}
+use Rattle.std.specs.Prelude.{is_ok, Ok}
 use Rattle.der.proofs.Laws.Walks.{ok_alone}
 
 -- ---- what rule 204 says of the bits
@@ -77,7 +76,7 @@ bits_said s h t =
 
 -- ---- of a certificate that fits
 
-module _ (s : List ℕ) (e : certificate_verdict s ≡ Fits) where
+module _ (s : List ℕ) (e : certificate_verdict s ≡ Ok tt) where
   abbrev bits : Head
   bits = (subject_key s).bits
 

@@ -110,7 +110,7 @@ unordered_all s o = (
 )
   where
     go : ((t : Tree) × Encodes t s × (SetsOrdered t → ⊥)) → (v : Soundness) → der_soundness s ≡ v → soundness_number (der_soundness s) ≡ 5
-    go p (Ok tt) e =
+    go p (Ok _) e =
         let q = (sound_all s o).0 e in
         absurd (p.2 (subst SetsOrdered (sym (read_as s q.0 q.1) ∙ read_as s p.0 p.1) q.2))
     go p (Err (Unsound k)) e = absurd ((faultless_all s o).1 (p.0, p.1) (ap soundness_number e))
