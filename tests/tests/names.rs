@@ -53,7 +53,7 @@ fn no_definition_is_named_as_one_of_another_crate() {
 
 #[test]
 fn no_code_is_named_as_that_of_another_crate() {
-    check_owners("functions, types and constants", &owners("src", "rt", code_in), ["check_der", "Soundness"]);
+    check_owners("functions, types and constants", &owners("src", "rt", code_in), ["check_der", "Fault"]);
 }
 
 #[test]

@@ -26,31 +26,31 @@ mod calls;
 mod decks;
 mod lines;
 
-use asn::Verdict;
-use der::Soundness;
+use asn::Misfit;
+use der::Fault;
 use std::io::{Print, Read};
 
-fn answer_form(output: &impl Print, found: Verdict) {
+fn answer_form(output: &impl Print, found: Result<(), Misfit>) {
     match found {
-        Verdict::Fits => lines::put_out(output, b"certificate\n"),
-        Verdict::Wrong(place) => lines::say(output, b"departs at ", place),
-        Verdict::Stranger => lines::say(output, b"departs at ", 0),
+        Ok(()) => lines::put_out(output, b"certificate\n"),
+        Err(Misfit::Wrong(place)) => lines::say(output, b"departs at ", place),
+        Err(Misfit::Stranger) => lines::say(output, b"departs at ", 0),
     }
 }
 
 fn answer_certificate(output: &impl Print, octets: &[u8]) {
     match der::check_der(octets) {
-        Soundness::Sound => answer_form(output, asn::check_certificate(octets)),
-        Soundness::Unsound(place) => lines::say(output, b"unsound at ", place),
-        Soundness::Unordered(place) => lines::say(output, b"unordered at ", place),
+        Ok(()) => answer_form(output, asn::check_certificate(octets)),
+        Err(Fault::Unsound(place)) => lines::say(output, b"unsound at ", place),
+        Err(Fault::Unordered(place)) => lines::say(output, b"unordered at ", place),
     }
 }
 
 fn answer_encoding(output: &impl Print, octets: &[u8]) {
     match der::check_der(octets) {
-        Soundness::Sound => lines::put_out(output, b"sound\n"),
-        Soundness::Unsound(place) => lines::say(output, b"unsound at ", place),
-        Soundness::Unordered(place) => lines::say(output, b"unordered at ", place),
+        Ok(()) => lines::put_out(output, b"sound\n"),
+        Err(Fault::Unsound(place)) => lines::say(output, b"unsound at ", place),
+        Err(Fault::Unordered(place)) => lines::say(output, b"unordered at ", place),
     }
 }
 

@@ -1,13 +1,14 @@
 -- What an ASN.1 type is, and where an element departs from one. DER is matched by identifier octets, left to right.
-use Rattle.std.specs.Prelude.{Bool, true, false, cond, not, ◌&&◌, ◌||◌, List, [], ◌∷◌, map, is_some, ℕ, ◌/◌, ◌%◌, ◌^◌, eqb, ltb}
-use Rattle.asn.specs.declared.fitting.Verdict.{Verdict}
-use Rattle.asn.specs.declared.fitting.Verdict.TheVariants.{Stranger, Fits, Wrong}
+use Rattle.std.specs.Prelude.{Bool, true, false, cond, not, ◌&&◌, ◌||◌, List, [], ◌∷◌, map, is_some, ℕ, ◌/◌, ◌%◌, ◌^◌, eqb, ltb, Ok, Err}
 use Rattle.times.specs.Reads.{time_of}
 use Rattle.der.specs.Header.{children_of}
 use Rattle.der.specs.Contents.{integer_ok, last_of, bits_ok, null_ok, oid_ok, contents_of}
 use Rattle.der.specs.Order.{ascending, octets_of}
 use Rattle.der.specs.Tags.{utc_time_tag, generalized_time_tag, set_tag, application_class}
 use Rattle.der.specs.declared.header.Head.{Head}
+use Rattle.asn.specs.declared.fitting.Misfit.TheVariants.{Stranger, Wrong}
+use Rattle.asn.specs.declared.fitting.Misfit.{Misfit}
+use Rattle.std.specs.declared.result.Result.{Result}
 
 -- tests of contents that are no list of elements
 pub data Test : Type 0 where
@@ -88,16 +89,20 @@ set_in_order s h = eqb h.tag set_tag || ascending (map (octets_of s) (children_o
 abbrev pub takes : ℕ → ℕ → Bool
 takes wanted tag = eqb wanted 0 || eqb wanted tag
 
--- go on by what became of an element
+-- what becomes of an element against a type
+abbrev pub Verdict : Type 0
+Verdict = Result (Unit {0}) Misfit
+
+-- go on by what became of an element: of a stranger with a, of one that fits with b
 abbrev pub unless_wrong : Verdict → Verdict → Verdict → Verdict
-unless_wrong Stranger a b = a
-unless_wrong Fits a b = b
-unless_wrong (Wrong p) a b = Wrong p
+unless_wrong (Ok _) a b = b
+unless_wrong (Err Stranger) a b = a
+unless_wrong (Err (Wrong p)) a b = Err (Wrong p)
 
 -- a field that must stand there; `outer` is the start of the enclosing element
 abbrev pub required : (Head → Verdict) → (List Head → Verdict) → ℕ → List Head → Verdict
-required fit rest outer [] = Wrong outer
-required fit rest outer (h ∷ hs) = unless_wrong (fit h) (Wrong h.at) (rest hs)
+required fit rest outer [] = Err (Wrong outer)
+required fit rest outer (h ∷ hs) = unless_wrong (fit h) (Err (Wrong h.at)) (rest hs)
 
 -- a field that may stand there
 abbrev pub optional : (Head → Verdict) → (List Head → Verdict) → List Head → Verdict
@@ -111,27 +116,22 @@ repeated fit rest (h ∷ hs) = unless_wrong (fit h) (rest (h ∷ hs)) (repeated 
 
 -- nothing more may stand there
 abbrev pub ended : List Head → Verdict
-ended [] = Fits
-ended (h ∷ hs) = Wrong h.at
+ended [] = Ok tt
+ended (h ∷ hs) = Err (Wrong h.at)
 
 unfoldable mutual
   -- an element against a type: it has another identifier, it fits, or it is wrong at a place
   pub fits : Form → List ℕ → Head → Verdict
-  fits none s h = Stranger
+  fits none s h = Err Stranger
   fits (alt i x f) s h = cond (takes i h.tag) (holds x s h) (fits f s h)
 
   pub holds : Inside → List ℕ → Head → Verdict
-  holds (leaf t) s h = cond (passes t h.tag (contents_of s h)) Fits (Wrong h.at)
+  holds (leaf t) s h = cond (passes t h.tag (contents_of s h)) (Ok tt) (Err (Wrong h.at))
   holds (parts p) s h = follows p s h.at (children_of s h.body h.end)
-  holds (set p) s h = cond (set_in_order s h) (follows p s h.at (children_of s h.body h.end)) (Wrong h.at)
+  holds (set p) s h = cond (set_in_order s h) (follows p s h.at (children_of s h.body h.end)) (Err (Wrong h.at))
 
   pub follows : Slots → List ℕ → ℕ → List Head → Verdict
   follows done s outer hs = ended hs
   follows (one f p) s outer hs = required (λ h. fits f s h) (λ hs. follows p s outer hs) outer hs
   follows (opt f p) s outer hs = optional (λ h. fits f s h) (λ hs. follows p s outer hs) hs
   follows (many f p) s outer hs = repeated (λ h. fits f s h) (λ hs. follows p s outer hs) hs
-
-abbrev pub is_fits : Verdict → Bool
-is_fits Stranger = false
-is_fits Fits = true
-is_fits (Wrong p) = false

@@ -2,7 +2,7 @@
 ghost use Rattle.std.specs.Prelude.{◌≡◌, cond, ◌||◌, ◌+◌, ◌/◌, ◌%◌, ◌<◌, get_or, eqb, ltb};
 ghost use Rattle.octets.specs.Numbers.{largest};
 ghost use Rattle.der.specs.Header.{children_of};
-ghost use Rattle.asn.specs.Grammar.{Form, Slots, set_in_order, takes, follows, is_fits};
+ghost use Rattle.asn.specs.Grammar.{Form, Slots, set_in_order, takes, follows};
 ghost use Rattle.asn.specs.Workings.Choosing.{alternative_for, field_for, may_stand, lacking};
 ghost use Rattle.asn.specs.Module.{value_of};
 ghost use Rattle.asn.specs.Answers.{only_element, certificate_verdict, value_ok};
@@ -12,30 +12,20 @@ use crate::leaf::{TESTS, passes_test};
 use crate::table::{FIELDS, ROOTS, ROWS};
 use der::Head;
 
-// What becomes of an element against a type.
-#[derive(Clone, Copy)]
-pub enum Verdict {
+// What is wrong with an element against a type.
+#[derive(Clone, Copy, Debug, PartialEq, Eq)]
+pub enum Misfit {
     // no alternative has its identifier
     Stranger,
-    Fits,
     // the start of the first element that is not allowed, or of the one that ends early
     Wrong(usize),
 }
 
-fn wide16(x: u16) -> usize
-    ensures { result ≡ x }
-{
-    x as usize
-}
-
 // The row at place n of a table; past its end every row is 0.
 fn row_at(table: &[u16], n: usize) -> usize
-    ensures { (result ≡ get_or table.now n 0) × (result < 65536) }
+    ensures { result ≡ get_or table.now n 0 }
 {
-    if n < table.len() {
-        return wide16(table[n]);
-    }
-    0
+    table.get(n).map_or(0, |row| usize::from(*row))
 }
 
 fn takes_tag(wanted: usize, tag: u8) -> bool
@@ -50,14 +40,13 @@ fn find_alternative(rows: &[u16], n: usize, tag: u8) -> usize
     requires { rows_say form_of Form.none rows.now ≡ all_forms types }
     ensures { alternative_at result ≡ alternative_for (form_at n) tag }
 {
-    let mut m = n;
-    loop {
-        let r = row_at(rows, m);
-        if takes_tag(r / 256, tag) {
-            return r;
+    for m in n..rows.len() {
+        let row = usize::from(rows[m]);
+        if takes_tag(row / 256, tag) {
+            return row;
         }
-        m += 1;
     }
+    0
 }
 
 // Where an element belongs: the row of the alternative that takes it, 0 if there is none, and the row of the fields
@@ -81,40 +70,36 @@ fn find_field(rows: &[u16], slots: &[u16], k: usize, tag: u8) -> Found
     requires { Tables rows.now slots.now }
     ensures { field_at result ≡ field_for (slots_at k) tag }
 {
-    let mut j = k;
-    loop {
-        let t = row_at(slots, j);
-        let kind = t / 256;
+    for j in k..slots.len() {
+        let field = usize::from(slots[j]);
+        let kind = field / 256;
         if kind == 0 {
-            return Found { row: 0, next: j };
+            break;
         }
-        let row = find_alternative(rows, t % 256, tag);
+        let row = find_alternative(rows, field % 256, tag);
         if !(row == 0) | (kind == 1) {
             return Found {
-                row: row,
+                row,
                 next: row_after(kind, j),
             };
         }
-        j += 1;
     }
+    Found { row: 0, next: k }
 }
 
 // What becomes of the contents of the element at `outer` where they end before the fields from row k on.
-fn end_before(slots: &[u16], k: usize, outer: usize) -> Verdict
+fn end_before(slots: &[u16], k: usize, outer: usize) -> Result<(), Misfit>
     requires { rows_say fields_of Slots.done slots.now ≡ slot_rows }
     ensures { result ≡ lacking (slots_at k) outer }
 {
-    let mut j = k;
-    loop {
-        let kind = row_at(slots, j) / 256;
-        if kind == 0 {
-            return Verdict::Fits;
+    for j in k..slots.len() {
+        match slots[j] / 256 {
+            0 => break,
+            1 => return Err(Misfit::Wrong(outer)),
+            _ => {}
         }
-        if kind == 1 {
-            return Verdict::Wrong(outer);
-        }
-        j += 1;
     }
+    Ok(())
 }
 
 // Whether the members of h ascend, if its row says that it is a SET. With its own tag it was judged with all of DER.
@@ -141,16 +126,6 @@ fn may_stand(s: &[u8], row: usize, h: Head) -> bool
     set_in_order(s, row, h)
 }
 
-fn is_fits(v: Verdict) -> bool
-    ensures { result ≡ is_fits v }
-{
-    match v {
-        Verdict::Stranger => false,
-        Verdict::Fits => true,
-        Verdict::Wrong(_) => false,
-    }
-}
-
 // The elements from `from` to `end`, the contents of the one at `outer`, against the fields from row k on.
 fn walk(
     s: &[u8],
@@ -160,7 +135,7 @@ fn walk(
     outer: usize,
     from: usize,
     end: usize,
-) -> Verdict
+) -> Result<(), Misfit>
     requires { Tables rows.now slots.now }
     ensures { result ≡ follows (slots_at k) s.now outer (children_of s.now from end) }
 {
@@ -171,13 +146,10 @@ fn walk(
         let found = find_field(rows, slots, j, h.tag);
         let inside = found.row % 128;
         if !may_stand(s, found.row, h) {
-            return Verdict::Wrong(h.at);
+            return Err(Misfit::Wrong(h.at));
         }
         if inside >= TESTS {
-            let v = walk(s, rows, slots, inside - TESTS, h.at, h.body, h.end);
-            if !is_fits(v) {
-                return v;
-            }
+            walk(s, rows, slots, inside - TESTS, h.at, h.body, h.end)?;
         }
         at = h.end;
         j = found.next;
@@ -187,7 +159,7 @@ fn walk(
 
 // The elements from `at` to `end` as one element, and no more: a Certificate, for 0, or the value of the extension
 // that rule 340+s judges.
-fn only_element(s: &[u8], slot: usize, at: usize, end: usize) -> Verdict
+fn only_element(s: &[u8], slot: usize, at: usize, end: usize) -> Result<(), Misfit>
     ensures { result ≡ only_element (value_of slot) s.now at end }
 {
     let rows = ROWS;
@@ -198,7 +170,7 @@ fn only_element(s: &[u8], slot: usize, at: usize, end: usize) -> Verdict
 }
 
 // Whether the octets, once they are sound DER, are a certificate; if not, the place where they depart from one.
-pub fn check_certificate(s: &[u8]) -> Verdict
+pub fn check_certificate(s: &[u8]) -> Result<(), Misfit>
     ensures { result ≡ certificate_verdict s.now }
 {
     only_element(s, 0, 0, s.len())
@@ -206,11 +178,9 @@ pub fn check_certificate(s: &[u8]) -> Verdict
 
 // Whether the octets from `at` to `end` are exactly one sound element of the type that a slot of the table of
 // extensions has.
+#[tactic(auto, unfolding(crate::specs::Answers::value_ok))]
 pub fn value_ok(s: &[u8], slot: usize, at: usize, end: usize) -> bool
     ensures { result ≡ value_ok s.now slot at end }
 {
-    if der::is_sound(der::check_stretch(s, at, end)) {
-        return is_fits(only_element(s, slot, at, end));
-    }
-    false
+    der::check_stretch(s, at, end).is_ok() && only_element(s, slot, at, end).is_ok()
 }

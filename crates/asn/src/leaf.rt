@@ -69,7 +69,9 @@ fn universal_ok(s: &[u8], number: u8, tag: u8, body: usize, n: usize) -> bool
 // The tests' numbers are below this.
 pub const TESTS: usize = 13;
 
-// Whether the n octets from place `body` on, under this tag, pass the test with this number.
+// Whether the n octets from place `body` on, under this tag, pass the test with this number: a number and no enum,
+// since a row of the table has it in 7 bits, and these same arms would be needed to make an enum of it.
+#[tactic(auto, unfolding(der::specs::Contents::primitive_ok))]
 pub fn passes_test(s: &[u8], test: usize, tag: u8, body: usize, n: usize) -> bool
     ensures { result ≡ passes (test_at test) tag (octets_from s.now body n) }
 {

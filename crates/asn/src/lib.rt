@@ -6,4 +6,4 @@ mod fitting;
 mod leaf;
 mod table;
 
-pub use fitting::{Verdict, check_certificate, value_ok};
+pub use fitting::{Misfit, check_certificate, value_ok};

@@ -34,6 +34,7 @@ pub fn broken_head(at: usize, end: usize) -> Head
 
 // The head of an element whose header takes `skip` octets and whose contents take `len`, where that stays before
 // end and its tag and length are good.
+#[tactic(auto, using(std::proofs::lemmas::Bool::Decides::nat_tests))]
 fn head_if(good: bool, at: usize, end: usize, tag: u8, skip: usize, len: usize) -> Head
     ensures { result ≡ head_if good at end tag skip len }
 {
@@ -95,6 +96,7 @@ pub fn head_any(s: &[u8], at: usize, end: usize) -> Head
 }
 
 // The same, small enough to be inlined: the short form is read here, and the long one, which is rare, by a call.
+#[tactic(auto, using(std::proofs::lemmas::Bool::Decides::nat_tests))]
 pub fn head_at(s: &[u8], at: usize, end: usize) -> Head
     ensures { result ≡ head_of s.now at end }
 {

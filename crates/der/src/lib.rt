@@ -18,4 +18,4 @@ pub use contents::{element_ok, holds_elements, is_constructed, primitive_ok};
 pub use header::{Head, head_any, head_at};
 pub use members::{after, first_in, inside_tag, is_none, missing, past, second_in};
 pub use order::{ascending, octets_le};
-pub use walk::{Soundness, check_der, check_stretch, is_sound};
+pub use walk::{Fault, check_der, check_stretch};

@@ -1,6 +1,6 @@
 -- The elements of a certificate: those of document 01's "Sound DER", what fills an extension's value (340+s), and what fills the bits of an
 -- RSA key (204).
-use Rattle.std.specs.Prelude.{◌≡◌, true, List, ℕ, ◌+◌, length}
+use Rattle.std.specs.Prelude.{◌≡◌, true, List, ℕ, ◌+◌, length, Ok}
 use Rattle.facts.specs.Kinds.{is_rsa}
 use Rattle.octets.specs.Octets.{octet_at}
 use Rattle.der.specs.Header.{head_of, children_of}
@@ -8,7 +8,6 @@ use Rattle.der.specs.Elements.{HeldFrom}
 use Rattle.der.specs.Soundness.{stretch_soundness}
 use Rattle.der.specs.Tags.{sequence_tag}
 use Rattle.der.specs.declared.header.Head.{Head}
-use Rattle.der.specs.declared.walk.Soundness.TheVariants.{Sound}
 use Rattle.certificate.specs.Fields.{certificate_of}
 use Rattle.certificate.specs.Key.{key_of}
 use Rattle.certificate.specs.Extensions.{extension_of}
@@ -17,7 +16,7 @@ use Rattle.report.specs.Order.{In}
 
 -- one element fills the octets from place at to end, and is sound with all that it holds, depths counted from 1
 abbrev pub Fills : List ℕ → ℕ → ℕ → Type 0
-Fills s at end = stretch_soundness s at end ≡ Sound
+Fills s at end = stretch_soundness s at end ≡ Ok tt
 
 -- the Extensions in the certificate's list
 abbrev pub extensions_of : List ℕ → List Head

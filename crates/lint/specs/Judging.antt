@@ -7,15 +7,14 @@ use Rattle.lint.specs.declared.reasons.Refusal.{Refusal}
 use Rattle.lint.specs.declared.reasons.Side.{Side}
 use Rattle.lint.specs.declared.reasons.Side.TheVariants.{Certificate, Issuer}
 use Rattle.lint.specs.declared.reasons.Inadmissible.TheVariants.{CertificateLength, IssuerLength, UnknownProfile}
-use Rattle.der.specs.Soundness.{der_soundness}
-use Rattle.der.specs.declared.walk.Soundness.{Soundness}
-use Rattle.der.specs.declared.walk.Soundness.TheVariants.{Sound, Unsound, Unordered}
+use Rattle.der.specs.Soundness.{der_soundness, Soundness}
 use Rattle.asn.specs.Answers.{certificate_verdict}
-use Rattle.asn.specs.declared.fitting.Verdict.{Verdict}
-use Rattle.asn.specs.declared.fitting.Verdict.TheVariants.{Stranger, Fits, Wrong}
 use Rattle.profiles.specs.Fields.{asked_of}
 use Rattle.profiles.specs.declared.fields.Profile.{Profile}
 use Rattle.lint.specs.declared.reasons.Refusal.TheVariants as Refusals
+use Rattle.der.specs.declared.walk.Fault.TheVariants.{Unsound, Unordered}
+use Rattle.asn.specs.Grammar.{Verdict}
+use Rattle.asn.specs.declared.fitting.Misfit.TheVariants.{Stranger, Wrong}
 
 -- refusals 1 and 2 are for "0 or over 8,192 bytes"
 abbrev pub side_length_ok : ℕ → Bool
@@ -23,15 +22,15 @@ side_length_ok n = leb 1 n && leb n 8192
 
 -- 6 "not a certificate". (A list of elements is never a stranger.)
 abbrev pub by_verdict : Profile → Side → Verdict → Result Profile Refusal
-by_verdict p side Fits = Ok p
-by_verdict p side (Wrong place) = Err (Refusals.NotCertificate side place)
-by_verdict p side Stranger = Err (Refusals.NotCertificate side 0)
+by_verdict p side (Ok _) = Ok p
+by_verdict p side (Err (Wrong place)) = Err (Refusals.NotCertificate side place)
+by_verdict p side (Err Stranger) = Err (Refusals.NotCertificate side 0)
 
 -- 4 "not sound DER", 5 "a SET out of order", then 6
 abbrev pub by_soundness : Profile → Side → Soundness → Verdict → Result Profile Refusal
-by_soundness p side Sound verdict = by_verdict p side verdict
-by_soundness p side (Unsound place) verdict = Err (Refusals.Unsound side place)
-by_soundness p side (Unordered place) verdict = Err (Refusals.Unordered side place)
+by_soundness p side (Ok _) verdict = by_verdict p side verdict
+by_soundness p side (Err (Unsound place)) verdict = Err (Refusals.Unsound side place)
+by_soundness p side (Err (Unordered place)) verdict = Err (Refusals.Unordered side place)
 
 unfoldable pub side_judgement : Profile → Side → List ℕ → Result Profile Refusal
 side_judgement p side s = by_soundness p side (der_soundness s) (certificate_verdict s)

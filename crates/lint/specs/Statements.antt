@@ -1,21 +1,19 @@
 -- What the statements about whole answers speak of.
-use Rattle.std.specs.Prelude.{true, List, ◌≡◌, ℕ, ◌<◌, length}
+use Rattle.std.specs.Prelude.{true, List, ◌≡◌, ℕ, ◌<◌, length, Ok}
 use Rattle.lint.specs.Judging.{side_length_ok}
 use Rattle.lint.specs.declared.reasons.Side.{Side}
 use Rattle.lint.specs.declared.reasons.Side.TheVariants.{Certificate, Issuer}
 use Rattle.lint.specs.declared.reasons.Refusal.{Refusal}
 use Rattle.der.specs.Elements.{ElementStart}
 use Rattle.der.specs.Soundness.{der_soundness}
-use Rattle.der.specs.declared.walk.Soundness.TheVariants.{Sound}
 use Rattle.asn.specs.Answers.{certificate_verdict}
-use Rattle.asn.specs.declared.fitting.Verdict.TheVariants.{Fits}
 use Rattle.lint.specs.declared.reasons.Refusal.TheVariants as Refusals
 
 -- a side that refusals 1, 2, 4, 5 and 6 leave alone
 pub record Acceptable (s : List ℕ) : Type 0 where
   pub sized : side_length_ok (length s) ≡ true
-  pub sound : der_soundness s ≡ Sound
-  pub fits : certificate_verdict s ≡ Fits
+  pub sound : der_soundness s ≡ Ok tt
+  pub fits : certificate_verdict s ≡ Ok tt
 
 -- the octets of a side
 abbrev pub side_octets : List ℕ → List ℕ → Side → List ℕ

@@ -4,15 +4,14 @@ use Rattle.lint.specs.Judging.{side_length_ok}
 use Rattle.refusals.specs.Table.{wrong_certificate_length, wrong_issuer_length, unknown_profile, not_sound_der, set_out_of_order, not_certificate, too_little_room}
 use Rattle.refusals.specs.Table.{on_neither, on_certificate, on_issuer, unrefused, RefusalRow, refusal_row, first_that_applies}
 use Rattle.refusals.specs.declared.table.Values.{Values}
-use Rattle.der.specs.Soundness.{der_soundness, soundness_number, soundness_place}
-use Rattle.der.specs.declared.walk.Soundness.{Soundness}
+use Rattle.der.specs.Soundness.{der_soundness, soundness_number, soundness_place, Soundness}
 use Rattle.asn.specs.Answers.{certificate_verdict, verdict_number, verdict_place}
-use Rattle.asn.specs.declared.fitting.Verdict.{Verdict}
 use Rattle.profiles.specs.declared.fields.Profile.{Profile}
 use Rattle.profiles.specs.Fields.{asked_of}
 use Rattle.report.specs.Answers.{enough_room}
 use Rattle.report.specs.declared.sink.Entry.{Entry}
 use Rattle.rules.specs.Rules.{findings}
+use Rattle.asn.specs.Grammar.{Verdict}
 
 -- the rows 1, 2 and 3, of sides of so many octets, and of what profile is asked for
 abbrev pub admission_table : ℕ → ℕ → Option Profile → List RefusalRow

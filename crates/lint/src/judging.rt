@@ -3,8 +3,8 @@ ghost use Rattle.std.specs.Prelude.{◌≡◌};
 ghost use Rattle.lint.specs.Judging.{side_length_ok, by_verdict, side_judgement, both_sides, admission_of, judgement_of};
 
 use crate::reasons::{Inadmissible, Refusal, Side};
-use asn::Verdict;
-use der::Soundness;
+use asn::Misfit;
+use der::Fault;
 use profiles::Profile;
 
 fn side_length_ok(n: usize) -> bool
@@ -14,13 +14,13 @@ fn side_length_ok(n: usize) -> bool
 }
 
 // Refusal 6, of a side that is sound DER.
-fn by_verdict(p: Profile, side: Side, verdict: Verdict) -> Result<Profile, Refusal>
+fn by_verdict(p: Profile, side: Side, verdict: Result<(), Misfit>) -> Result<Profile, Refusal>
     ensures { result ≡ by_verdict p side verdict }
 {
     match verdict {
-        Verdict::Fits => Ok(p),
-        Verdict::Wrong(place) => Err(Refusal::NotCertificate(side, place)),
-        Verdict::Stranger => Err(Refusal::NotCertificate(side, 0)),
+        Ok(()) => Ok(p),
+        Err(Misfit::Wrong(place)) => Err(Refusal::NotCertificate(side, place)),
+        Err(Misfit::Stranger) => Err(Refusal::NotCertificate(side, 0)),
     }
 }
 
@@ -30,9 +30,9 @@ fn judge_side(p: Profile, side: Side, s: &[u8]) -> Result<Profile, Refusal>
     ensures { result ≡ side_judgement p side s.now }
 {
     match der::check_der(s) {
-        Soundness::Sound => by_verdict(p, side, asn::check_certificate(s)),
-        Soundness::Unsound(place) => Err(Refusal::Unsound(side, place)),
-        Soundness::Unordered(place) => Err(Refusal::Unordered(side, place)),
+        Ok(()) => by_verdict(p, side, asn::check_certificate(s)),
+        Err(Fault::Unsound(place)) => Err(Refusal::Unsound(side, place)),
+        Err(Fault::Unordered(place)) => Err(Refusal::Unordered(side, place)),
     }
 }
 

@@ -1,10 +1,10 @@
 -- An RSA key: RSAPublicKey ::= SEQUENCE { modulus INTEGER, publicExponent INTEGER } (RFC 3279, 2.3.1), in the bits of a BIT STRING.
-use Rattle.std.specs.Prelude.{List, [], ◌∷◌, Bool, false, ◌&&◌, ℕ, ◌+◌, min, eqb}
+use Rattle.std.specs.Prelude.{List, [], ◌∷◌, Bool, false, ◌&&◌, ℕ, ◌+◌, min, eqb, is_ok}
 use Rattle.octets.specs.Octets.{octet_at}
 use Rattle.der.specs.Header.{head_of, children_of}
 use Rattle.der.specs.Contents.{contents_of}
 use Rattle.der.specs.Integers.{integer_of}
-use Rattle.der.specs.Soundness.{stretch_soundness, is_sound}
+use Rattle.der.specs.Soundness.{stretch_soundness}
 use Rattle.der.specs.Tags.{integer_tag, sequence_tag}
 use Rattle.der.specs.declared.header.Head.{Head}
 use Rattle.numbers.specs.Numbers.{is_positive}
@@ -37,5 +37,5 @@ two_positive s (m ∷ e ∷ h ∷ hs) = false
 unfoldable pub rsa_bits : List ℕ → Head → Bool
 rsa_bits s h =
     eqb (octet_at s h.body) 0
-    && (is_sound (stretch_soundness s (bits_from h) h.end)
+    && (is_ok (stretch_soundness s (bits_from h) h.end)
     && (eqb (sequence_in s h).tag sequence_tag && two_positive s (children_of s (sequence_in s h).body (sequence_in s h).end)))

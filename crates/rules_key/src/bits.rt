@@ -35,7 +35,7 @@ pub fn rsa_key(s: &[u8], bits: Head) -> Option<RsaKey>
 {
     let from = bits_from(bits);
     let none_unused = octets::octet(s, bits.body) == 0;
-    let sound = der::is_sound(der::check_stretch(s, from, bits.end));
+    let sound = der::check_stretch(s, from, bits.end).is_ok();
     let whole = der::head_any(s, from, bits.end);
     let end = whole.end;
     let modulus = der::head_any(s, whole.body, end);

@@ -15,7 +15,7 @@ use Rattle.der.specs.Oids.{sevens, subidentifier, subidentifiers, oid}
 use Rattle.der.specs.Order.{octets_le, ascend_from}
 use Rattle.der.specs.Elements.{elements_of}
 use Rattle.der.specs.Soundness.{first, soundness, stretch_soundness, der_soundness}
-use Rattle.der.specs.declared.walk.Soundness.TheVariants.{Sound}
+use Rattle.std.specs.Prelude.{Ok}
 
 pub encoded : map (λ (e : TreeExample). encode e.tree) tree_examples ≡ map (λ (e : TreeExample). e.octets) tree_examples
 unfolding tree_examples word encode element length_octets number_by type_number contents integer_octets bit_string_octets packed unused oid subidentifiers
@@ -27,7 +27,7 @@ unfolding tree_examples word parse tree_of trees_of head_of children_of children
     packed unused oid subidentifiers subidentifier sevens
 parsed = refl
 
-pub judged : map (λ (e : TreeExample). der_soundness e.octets) tree_examples ≡ map (λ (e : TreeExample). Sound) tree_examples
+pub judged : map (λ (e : TreeExample). der_soundness e.octets) tree_examples ≡ map (λ (e : TreeExample). Ok tt) tree_examples
 unfolding tree_examples word stretch_soundness soundness first elements_of element_ok primitive_ok arcs_ok ascend_from octets_le head_of children_of children_by
     octets_from number_from
 judged = refl

@@ -6,29 +6,30 @@ use mathlib.Core.Path.{◌≡◌, refl, ap, ◌∙◌}
 use mathlib.Core.Bool.{Bool, true, false, cond}
 use mathlib.Core.List.{List, [], ◌∷◌}
 use Prim.Native.Nat.{ℕ}
-use Rattle.asn.specs.Grammar.{Form, Inside, Slots, passes, set_in_order, takes, unless_wrong, fits, holds, follows, is_fits}
+use Rattle.asn.specs.Grammar.{Form, Inside, Slots, passes, set_in_order, takes, unless_wrong, fits, holds, follows, Verdict}
 use Rattle.asn.specs.Grammar.Form.{none, alt}
 use Rattle.asn.specs.Grammar.Inside.{leaf, parts, set}
 use Rattle.asn.specs.Grammar.Slots.{done, one, opt, many}
 use Rattle.asn.specs.Workings.Choosing.{Alternative, Field, alternative_for, field_for, in_field, may_stand, lacking}
 use Rattle.asn.specs.Workings.Choosing.Alternative.{nobody, holding}
 use Rattle.asn.specs.Workings.Choosing.Field.{nowhere, here}
-use Rattle.asn.specs.declared.fitting.Verdict.{Verdict}
-use Rattle.asn.specs.declared.fitting.Verdict.TheVariants.{Stranger, Fits, Wrong}
 use Rattle.der.specs.Contents.{contents_of}
 use Rattle.der.specs.Header.{children_of}
 use Rattle.der.specs.declared.header.Head.{Head}
+use Rattle.asn.specs.declared.fitting.Misfit.TheVariants.{Stranger, Wrong}
+use Rattle.std.specs.Prelude.{Ok, Err}
+use Rattle.std.specs.Result.{result_and}
 
 -- ---- a list is never a stranger
 
 data Settled : Verdict → Type 0 where
-  well : Settled Fits
-  badly : {p : ℕ} → Settled (Wrong p)
+  well : Settled (Ok tt)
+  badly : {p : ℕ} → Settled (Err (Wrong p))
 
 after_settled : (v : Verdict) {a b : Verdict} → Settled a → Settled b → Settled (unless_wrong v a b)
-after_settled Stranger k l = k
-after_settled Fits k l = l
-after_settled (Wrong p) k l = badly
+after_settled (Err Stranger) k l = k
+after_settled (Ok _) k l = l
+after_settled (Err (Wrong p)) k l = badly
 
 either_settled : (c : Bool) {v w : Verdict} → Settled v → Settled w → Settled (cond c v w)
 either_settled true k l = k
@@ -52,11 +53,7 @@ module _ (s : List ℕ) where
   holds_settled (parts p) h = follows_settled p h.at (children_of s h.body h.end)
   holds_settled (set p) h = either_settled (set_in_order s h) (follows_settled p h.at (children_of s h.body h.end)) badly
 
--- a verdict, and where it is that all fits the next one
-abbrev pub and_then : Verdict → Verdict → Verdict
-and_then v w = cond (is_fits v) w v
-
-after_then : {v : Verdict} (a b : Verdict) → Settled v → unless_wrong v a b ≡ and_then v b
+after_then : {v : Verdict} (a b : Verdict) → Settled v → unless_wrong v a b ≡ result_and v b
 after_then a b well = refl
 after_then a b badly = refl
 
@@ -64,7 +61,7 @@ after_then a b badly = refl
 
 module _ (s : List ℕ) (h : Head) where
   abbrev asked : Alternative → Verdict
-  asked nobody = Stranger
+  asked nobody = Err Stranger
   asked (holding x) = holds x s h
 
   fits_asked : (f : Form) → fits f s h ≡ asked (alternative_for f h.tag)
@@ -79,11 +76,11 @@ module _ (s : List ℕ) (h : Head) where
 
   -- the members of h, where it may stand
   abbrev pub members_follow : Inside → Verdict
-  members_follow (leaf t) = Fits
+  members_follow (leaf t) = Ok tt
   members_follow (parts p) = follows p s h.at (children_of s h.body h.end)
   members_follow (set p) = follows p s h.at (children_of s h.body h.end)
 
-  holds_members : (x : Inside) → holds x s h ≡ cond (may_stand (holding x) s h) (members_follow x) (Wrong h.at)
+  holds_members : (x : Inside) → holds x s h ≡ cond (may_stand (holding x) s h) (members_follow x) (Err (Wrong h.at))
   unfolding holds
   holds_members (leaf t) = refl
   holds_members (parts p) = refl
@@ -92,25 +89,25 @@ module _ (s : List ℕ) (h : Head) where
   module _ (o : ℕ) (hs : List Head) where
     -- the list from h on, by the field that takes h
     abbrev pub onward : Field → Verdict
-    onward nowhere = Wrong h.at
-    onward (here x q) = cond (may_stand (holding x) s h) (and_then (members_follow x) (follows q s o hs)) (Wrong h.at)
+    onward nowhere = Err (Wrong h.at)
+    onward (here x q) = cond (may_stand (holding x) s h) (result_and (members_follow x) (follows q s o hs)) (Err (Wrong h.at))
 
     in_field_lem : (c : Alternative) (q : Slots) (other : Field) (a : Verdict) → a ≡ onward other
         → unless_wrong (asked c) a (follows q s o hs) ≡ onward (in_field c q other)
     in_field_lem nobody q other a e = e
     in_field_lem (holding x) q other a e =
         after_then a (follows q s o hs) (holds_settled s x h)
-        ∙ (ap (λ (v : Verdict). and_then v (follows q s o hs)) (holds_members x) ∙ go (may_stand (holding x) s h))
+        ∙ (ap (λ (v : Verdict). result_and v (follows q s o hs)) (holds_members x) ∙ go (may_stand (holding x) s h))
       where
-        go : (b : Bool) → and_then (cond b (members_follow x) (Wrong h.at)) (follows q s o hs)
-            ≡ cond b (and_then (members_follow x) (follows q s o hs)) (Wrong h.at)
+        go : (b : Bool) → result_and (cond b (members_follow x) (Err (Wrong h.at))) (follows q s o hs)
+            ≡ cond b (result_and (members_follow x) (follows q s o hs)) (Err (Wrong h.at))
         go true = refl
         go false = refl
 
     pub element_follows : (p : Slots) → follows p s o (h ∷ hs) ≡ onward (field_for p h.tag)
     unfolding follows
     element_follows done = refl
-    element_follows (one f p) = rw (fits_asked f) (in_field_lem (alternative_for f h.tag) p nowhere (Wrong h.at) refl)
+    element_follows (one f p) = rw (fits_asked f) (in_field_lem (alternative_for f h.tag) p nowhere (Err (Wrong h.at)) refl)
     element_follows (opt f p) =
         rw (fits_asked f) (in_field_lem (alternative_for f h.tag) p (field_for p h.tag) (follows p s o (h ∷ hs)) (element_follows p))
     element_follows (many f p) =

@@ -12,7 +12,7 @@ use native.Mathlib.Omega.{arith}
 use lib.Dec.{eqb}
 use lib.ListN.{length}
 use borrow.Author.Tests.{eqb-true}
-use Rattle.asn.specs.Grammar.{Form, Slots, takes, unless_wrong, fits, holds, follows}
+use Rattle.asn.specs.Grammar.{Form, Slots, takes, unless_wrong, fits, holds, follows, Verdict}
 use Rattle.asn.specs.Grammar.Form.{none, alt}
 use Rattle.asn.specs.Grammar.Inside.{parts}
 use Rattle.asn.specs.Grammar.Slots.{done, one, opt}
@@ -20,54 +20,54 @@ use Rattle.asn.specs.Module.{certificate, tbs_certificate}
 use Rattle.asn.specs.Answers.{certificate_verdict}
 use Rattle.asn.proofs.Terms.Fields.{Taken, Perhaps, CertificateFields, Outermost, TbsFields}
 use Rattle.asn.proofs.Terms.Fields.Optional.{absent, present}
-use Rattle.asn.specs.declared.fitting.Verdict.{Verdict}
-use Rattle.asn.specs.declared.fitting.Verdict.TheVariants.{Stranger, Fits, Wrong}
 use Rattle.der.specs.Header.{children_of}
 use Rattle.der.specs.declared.header.Head.{Head}
+use Rattle.asn.specs.declared.fitting.Misfit.TheVariants.{Stranger, Wrong}
+use Rattle.std.specs.Prelude.{Ok, Err}
 
 pub takes_tag : (i tag : ℕ) → eqb i 0 ≡ false → takes i tag ≡ true → tag ≡ i
 takes_tag i tag z t = sym (eqb-true i tag (rw z at t))
 
-pub parts_fit : (i : ℕ) (p : Slots) (s : List ℕ) (h : Head) → fits (alt i (parts p) none) s h ≡ Fits
-    → (takes i h.tag ≡ true) × (follows p s h.at (children_of s h.body h.end) ≡ Fits)
+pub parts_fit : (i : ℕ) (p : Slots) (s : List ℕ) (h : Head) → fits (alt i (parts p) none) s h ≡ Ok tt
+    → (takes i h.tag ≡ true) × (follows p s h.at (children_of s h.body h.end) ≡ Ok tt)
 unfolding fits holds
 parts_fit i p s h = go (takes i h.tag)
   where
-    go : (b : Bool) → cond b (follows p s h.at (children_of s h.body h.end)) Stranger ≡ Fits
-        → (b ≡ true) × (follows p s h.at (children_of s h.body h.end) ≡ Fits)
+    go : (b : Bool) → cond b (follows p s h.at (children_of s h.body h.end)) (Err Stranger) ≡ Ok tt
+        → (b ≡ true) × (follows p s h.at (children_of s h.body h.end) ≡ Ok tt)
     go true e = (refl, e)
     go false e = (cc, cc)
 
 -- an element that fits, where another would have been wrong
-first_fits : (v rest : Verdict) (p : ℕ) → unless_wrong v (Wrong p) rest ≡ Fits → (v ≡ Fits) × (rest ≡ Fits)
-first_fits Stranger rest p e = (cc, cc)
-first_fits Fits rest p e = (refl, e)
-first_fits (Wrong q) rest p e = (cc, cc)
+first_fits : (v rest : Verdict) (p : ℕ) → unless_wrong v (Err (Wrong p)) rest ≡ Ok tt → (v ≡ Ok tt) × (rest ≡ Ok tt)
+first_fits (Err Stranger) rest p e = (cc, cc)
+first_fits (Ok _) rest p e = (refl, e)
+first_fits (Err (Wrong q)) rest p e = (cc, cc)
 
-pub one_fits : (f : Form) (p : Slots) (s : List ℕ) (o : ℕ) (hs : List Head) → follows (one f p) s o hs ≡ Fits → Taken f p s o hs
+pub one_fits : (f : Form) (p : Slots) (s : List ℕ) (o : ℕ) (hs : List Head) → follows (one f p) s o hs ≡ Ok tt → Taken f p s o hs
 unfolding follows
 one_fits f p s o [] e = let z : ◌≡◌ {A = ℕ} 0 1 = cc in absurd (omega arith)
 one_fits f p s o (h ∷ hs) e =
     let w = first_fits (fits f s h) (follows p s o hs) h.at e in
     record { first = h; rest = hs; is = refl; fit = w.0; more = w.1 }
 
-pub done_fits : (s : List ℕ) (o : ℕ) (hs : List Head) → follows done s o hs ≡ Fits → hs ≡ []
+pub done_fits : (s : List ℕ) (o : ℕ) (hs : List Head) → follows done s o hs ≡ Ok tt → hs ≡ []
 unfolding follows
 done_fits s o [] e = refl
 done_fits s o (h ∷ hs) e = cc
 
-pub opt_fits : (f : Form) (p : Slots) (s : List ℕ) (o : ℕ) (hs : List Head) → follows (opt f p) s o hs ≡ Fits → Perhaps f p s o hs
+pub opt_fits : (f : Form) (p : Slots) (s : List ℕ) (o : ℕ) (hs : List Head) → follows (opt f p) s o hs ≡ Ok tt → Perhaps f p s o hs
 unfolding follows
 opt_fits f p s o [] e = record { front = []; rest = []; is = refl; fit = absent; more = e }
 opt_fits f p s o (h ∷ hs) e = go (fits f s h) refl e
   where
-    go : (v : Verdict) → fits f s h ≡ v → unless_wrong v (follows p s o (h ∷ hs)) (follows p s o hs) ≡ Fits → Perhaps f p s o (h ∷ hs)
-    go Stranger k e = record { front = []; rest = h ∷ hs; is = refl; fit = absent; more = e }
-    go Fits k e = record { front = h ∷ []; rest = hs; is = refl; fit = present k; more = e }
-    go (Wrong q) k e = let z : ◌≡◌ {A = ℕ} 0 1 = cc in absurd (omega arith)
+    go : (v : Verdict) → fits f s h ≡ v → unless_wrong v (follows p s o (h ∷ hs)) (follows p s o hs) ≡ Ok tt → Perhaps f p s o (h ∷ hs)
+    go (Err Stranger) k e = record { front = []; rest = h ∷ hs; is = refl; fit = absent; more = e }
+    go (Ok _) k e = record { front = h ∷ []; rest = hs; is = refl; fit = present k; more = e }
+    go (Err (Wrong q)) k e = let z : ◌≡◌ {A = ℕ} 0 1 = cc in absurd (omega arith)
 
 -- the members of a Certificate
-certificate_members : (s : List ℕ) (h : Head) → fits certificate s h ≡ Fits → CertificateFields s (children_of s h.body h.end)
+certificate_members : (s : List ℕ) (h : Head) → fits certificate s h ≡ Ok tt → CertificateFields s (children_of s h.body h.end)
 unfolding certificate
 certificate_members s h e =
     let k = (parts_fit 0x30 _ s h e).1 in
@@ -85,7 +85,7 @@ certificate_members s h e =
       signature_fits = c.fit;
     }
 
-pub certificate_fields : (s : List ℕ) → certificate_verdict s ≡ Fits → Outermost s (children_of s 0 (length s))
+pub certificate_fields : (s : List ℕ) → certificate_verdict s ≡ Ok tt → Outermost s (children_of s 0 (length s))
 unfolding certificate_verdict
 certificate_fields s e =
     let a = one_fits certificate done s 0 (children_of s 0 (length s)) e in
@@ -93,7 +93,7 @@ certificate_fields s e =
     record { whole = a.first; is = cc (a.is, d); members = certificate_members s a.first a.fit }
 
 -- the members of the TBSCertificate
-pub tbs_fields : (s : List ℕ) (h : Head) → fits tbs_certificate s h ≡ Fits → TbsFields s (children_of s h.body h.end)
+pub tbs_fields : (s : List ℕ) (h : Head) → fits tbs_certificate s h ≡ Ok tt → TbsFields s (children_of s h.body h.end)
 unfolding tbs_certificate
 tbs_fields s h e =
     let k = (parts_fit 0x30 _ s h e).1 in

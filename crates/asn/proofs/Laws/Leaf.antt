@@ -3,7 +3,6 @@
 --     natural_law     an INTEGER from 0
 --     positive_law    an INTEGER from 1
 --     named_law       a named bit list
---     test_other      a test that asks nothing
 -- Assumes nothing.
 use mathlib.Core.Path.{◌≡◌, refl, sym, ap, ◌∙◌}
 use mathlib.Core.List.{List}
@@ -12,8 +11,7 @@ use Prim.Native.Nat.{ℕ, zero, suc, ◌+◌, ◌-◌, ◌/◌, ◌%◌, ◌^◌
 use native.Mathlib.Omega.{arith}
 use lib.Dec.{eqb, ltb}
 use borrow.Author.Tests.{ne_eqb}
-use Rattle.asn.specs.Grammar.{Test, one_octet, natural_ok, positive_ok, named_ok}
-use Rattle.asn.specs.Workings.Table.{test_at}
+use Rattle.asn.specs.Grammar.{one_octet, natural_ok, positive_ok, named_ok}
 use Rattle.octets.specs.Octets.{octet_at, octets_from}
 use Rattle.der.specs.Contents.{last_of, primitive_ok}
 use Rattle.der.proofs.Laws.Contents.{last_law}
@@ -45,8 +43,3 @@ named_law s body (suc (suc n)) unused last good bit u l b g =
     let k : last ≡ last_of (octet_at s (body + 1)) (octets_from s (body + 1 + 1) n) = l ∙ ap (octet_at s) i ∙ sym (last_law s (body + 1) n) in
     rw (ne_eqb (suc (suc n)) 1 (λ h. omega arith), g, b, k, u)
 
-pub test_other : (t : ℕ) → (t ≡ 2 → ⊥) → (t ≡ 3 → ⊥) → (t ≡ 4 → ⊥) → (t ≡ 5 → ⊥) → (t ≡ 6 → ⊥) → (t ≡ 7 → ⊥) → (t ≡ 8 → ⊥)
-    → (t ≡ 9 → ⊥) → (t ≡ 10 → ⊥) → (t ≡ 11 → ⊥) → (t ≡ 12 → ⊥) → test_at t ≡ Test.free
-test_other t a b c d e f g h i j k =
-    let no = ne_eqb t in
-    rw (no 2 a, no 3 b, no 4 c, no 5 d, no 6 e, no 7 f, no 8 g, no 9 h, no 10 i, no 11 j, no 12 k)

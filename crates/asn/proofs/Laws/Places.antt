@@ -10,15 +10,13 @@ use native.Mathlib.Nat.{le_refl}
 use lib.Dec.{eqb}
 use lib.ListN.{length}
 use borrow.Author.Tests.{not-true}
-use Rattle.asn.specs.Grammar.{Form, Inside, Slots, set_in_order, takes, passes, unless_wrong, required, optional, repeated, ended, fits, holds, follows}
+use Rattle.asn.specs.Grammar.{Form, Inside, Slots, set_in_order, takes, passes, unless_wrong, required, optional, repeated, ended, fits, holds, follows, Verdict}
 use Rattle.asn.specs.Grammar.Form.{none, alt}
 use Rattle.asn.specs.Grammar.Inside.{leaf, parts, set}
 use Rattle.asn.specs.Grammar.Slots.{done, one, opt, many}
 use Rattle.asn.specs.Module.{algorithm_identifier, attribute_type_and_value, relative_distinguished_name, name, time, validity, subject_public_key_info}
 use Rattle.asn.specs.Module.{extension, extensions, version, tbs_certificate, certificate}
 use Rattle.asn.specs.Answers.{certificate_verdict, verdict_place}
-use Rattle.asn.specs.declared.fitting.Verdict.{Verdict}
-use Rattle.asn.specs.declared.fitting.Verdict.TheVariants.{Stranger, Fits, Wrong}
 use Rattle.octets.proofs.Laws.Tests.{and_l, and_r}
 use Rattle.der.specs.Contents.{constructed, contents_of}
 use Rattle.der.specs.Header.{head_of, children_of}
@@ -29,6 +27,8 @@ use Rattle.der.specs.declared.header.Head.{Head}
 use Rattle.der.proofs.Laws.Children.{children_done, children_next}
 use Rattle.der.proofs.Laws.Places.{held_members, outermost_start}
 use Rattle.asn.proofs.Laws.Fields.{takes_tag}
+use Rattle.asn.specs.declared.fitting.Misfit.TheVariants.{Stranger, Wrong}
+use Rattle.std.specs.Prelude.{Ok, Err}
 
 -- ---- a type gives a list to a constructed identifier alone, so what it asks of the list it asks of elements that are held
 
@@ -76,7 +76,7 @@ module _ (s : List ℕ) where
   record StartVerdict (v : Verdict) : Type 0 where
     start : ElementStart s (verdict_place v)
 
-  wrong_at : {h : Head} → SideElement s h → StartVerdict (Wrong h.at)
+  wrong_at : {h : Head} → SideElement s h → StartVerdict (Err (Wrong h.at))
   wrong_at {h} k = record { start = record { element = h; is = k; start = refl } }
 
   by_test : (b : Bool) {v w : Verdict} → (b ≡ true → StartVerdict v) → StartVerdict w → StartVerdict (cond b v w)
@@ -84,9 +84,9 @@ module _ (s : List ℕ) where
   by_test false k l = l
 
   after_start : (v : Verdict) {a b : Verdict} → StartVerdict v → StartVerdict a → StartVerdict b → StartVerdict (unless_wrong v a b)
-  after_start Stranger v a b = a
-  after_start Fits v a b = b
-  after_start (Wrong p) v a b = v
+  after_start (Err Stranger) v a b = a
+  after_start (Ok _) v a b = b
+  after_start (Err (Wrong p)) v a b = v
 
   module _ (fit : Head → Verdict) (rest : List Head → Verdict) (fit_start : (h : Head) → SideElement s h → StartVerdict (fit h))
       (rest_start : (hs : List Head) → SideElements hs → StartVerdict (rest hs)) where

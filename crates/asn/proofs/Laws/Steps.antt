@@ -1,6 +1,6 @@
 -- One step along the alternatives of a type, one along the fields, and one along the elements, in the terms of the tables' rows.
---     taken_here, taken_later, in_rows                    an alternative of a type
---     no_field, field_found, field_later, in_slots        a field of a list, for an element
+--     taken_here, taken_later                             an alternative of a type
+--     no_field, field_found, field_later                  a field of a list, for an element
 --     nothing_lacks, one_lacks, lacks_next                a field of a list, for no more elements
 --     judged_before, judged_now                           whether the members of an element are to ascend
 --     stands_by_test, stands_in_order                     an element, whatever its members are
@@ -11,13 +11,11 @@ use mathlib.Core.Bool.{Bool, true, false, cond, not, ◌||◌}
 use mathlib.Core.List.{List, ◌∷◌}
 use Prim.Native.Nat.{ℕ, ◌+◌, ◌-◌, ◌/◌, ◌%◌, ◌<◌, ◌≤◌}
 use native.Mathlib.Omega.{arith}
-use lib.ListN.{length, get_or, get_or-eq_default}
+use lib.ListN.{get_or}
 use lib.Dec.{eqb, ltb}
-use borrow.Author.Tests.{eq-eqb, ne_eqb, lt-ltb, le-ltb, eqb-true, eqb-false, ltb-true, ltb-false, not-true, not-false}
-use Rattle.asn.specs.declared.fitting.Verdict.{Verdict}
-use Rattle.asn.specs.declared.fitting.Verdict.TheVariants.{Fits, Wrong}
+use borrow.Author.Tests.{eq-eqb, ne_eqb, lt-ltb, le-ltb, eqb-true, eqb-false}
 use Rattle.asn.specs.declared.fitting.Found.{Found}
-use Rattle.asn.specs.Grammar.{Form, Inside, Slots, passes, set_in_order, takes, follows, is_fits}
+use Rattle.asn.specs.Grammar.{Form, Inside, Slots, passes, set_in_order, takes, follows, Verdict}
 use Rattle.asn.specs.Workings.Choosing.{alternative_for, field_for, in_field, may_stand, lacking}
 use Rattle.asn.specs.Workings.Choosing.Alternative.{nobody, holding}
 use Rattle.asn.specs.Workings.Choosing.Field.{nowhere, here}
@@ -29,15 +27,11 @@ use Rattle.der.specs.declared.header.Head.{Head}
 use Rattle.der.proofs.Laws.Header.{head_start, head_forward, head_body}
 use Rattle.der.proofs.Laws.Children.{children_done, children_next}
 use Rattle.asn.proofs.Laws.Rows.{row_law}
-use Rattle.asn.proofs.Laws.Choosing.{and_then, members_follow, onward, element_follows, none_follows}
-
--- past the end of a table there are only 0s
-in_table : (f : ℕ → ℕ) → f 0 ≡ 0 → (rows : List ℕ) (m r : ℕ) → r ≡ get_or rows m 0 → (f r ≡ 0 → ⊥) → m < length rows
-in_table f z rows m r e nz = go (ltb m (length rows)) refl
-  where
-    go : (b : Bool) → ltb m (length rows) ≡ b → m < length rows
-    go true t = ltb-true m (length rows) t
-    go false t = absurd (nz (ap f (e ∙ get_or-eq_default rows 0 (ltb-false m (length rows) t)) ∙ z))
+use Rattle.asn.proofs.Laws.Choosing.{members_follow, onward, element_follows, none_follows}
+use Rattle.asn.specs.declared.fitting.Misfit.{Misfit}
+use Rattle.asn.specs.declared.fitting.Misfit.TheVariants.{Wrong}
+use Rattle.std.specs.Prelude.{Ok, Err}
+use Rattle.std.specs.Result.{result_and}
 
 -- The row r at place m of a table of types that is right: an alternative, with the others from the next row on; or the 0 that ends a type, which
 -- takes any identifier octet.
@@ -62,20 +56,11 @@ module _ (rows : List ℕ) (right : rows_say form_of Form.none rows ≡ all_form
   pub taken_later : took ≡ false → alternative_for (form_at m) tag ≡ alternative_for (form_at (m + 1)) tag
   taken_later t = rw (alternative_row, t)
 
-  pub in_rows : took ≡ false → m < length rows
-  in_rows t = in_table (λ x. x) refl rows m r e (λ z. no_zero z t)
-    where
-      no_zero : r ≡ 0 → took ≡ false → ⊥
-      no_zero z t = let y : ◌≡◌ {A = Bool} true false = sym (k ∙ rw z) ∙ t in let x : ◌≡◌ {A = ℕ} 0 1 = cc in omega arith
-
 -- the row r at place j of a table of fields that is right: a field, with the others from the next row on, or the end of the fields
 module _ (slots : List ℕ) (right : rows_say fields_of Slots.done slots ≡ slot_rows) (j r : ℕ) (e : r ≡ get_or slots j 0) where
   slots_row : slots_at j ≡ fields_of r (slots_at (j + 1))
   unfolding slots_at
   slots_row = rw e (row_law fields_of Slots.done (λ a. refl) slots slot_rows right j)
-
-  pub in_slots : (r / 256 ≡ 0 → ⊥) → j < length slots
-  in_slots nz = in_table (λ x. x / 256) refl slots j r e nz
 
   pub no_field : (tag : ℕ) → r / 256 ≡ 0 → field_for (slots_at j) tag ≡ nowhere
   no_field tag z = rw (slots_row, eq-eqb (r / 256) 0 z)
@@ -132,10 +117,10 @@ module _ (slots : List ℕ) (right : rows_say fields_of Slots.done slots ≡ slo
         go true = refl
         go false = refl
 
-  pub nothing_lacks : (o : ℕ) → r / 256 ≡ 0 → lacking (slots_at j) o ≡ Fits
+  pub nothing_lacks : (o : ℕ) → r / 256 ≡ 0 → lacking (slots_at j) o ≡ Ok tt
   nothing_lacks o z = rw (slots_row, eq-eqb (r / 256) 0 z)
 
-  pub one_lacks : (o : ℕ) → r / 256 ≡ 1 → lacking (slots_at j) o ≡ Wrong o
+  pub one_lacks : (o : ℕ) → r / 256 ≡ 1 → lacking (slots_at j) o ≡ Err (Wrong o)
   one_lacks o z = rw (slots_row, z)
 
 -- Whether the members of an element ascend is asked where it is a SET, and was not judged with all of DER.
@@ -165,73 +150,64 @@ module _ (s : List ℕ) (h : Head) (r : ℕ) (nz : r ≡ 0 → ⊥) (good : Bool
       go true = refl
       go false = refl
 
--- the first of the elements from `at` to `end`, with what was found for it among the fields p
-pub record First (s : List ℕ) (p : Slots) (at end : ℕ) : Type 0 where
-  pub some : at < end
-  pub h : Head
-  pub is : h ≡ head_of s at end
-  pub found : Found
-  pub field : field_at found ≡ field_for p h.tag
-  pub good : Bool
-  pub judged : good ≡ may_stand (alternative_at found.row) s h
-
--- it lies between them
-pub first_inside : {s : List ℕ} {p : Slots} {at end : ℕ} (x : First s p at end) → (at < x.h.body) × (x.h.body ≤ x.h.end) × (x.h.end ≤ end)
-first_inside {s} {p} {at} {end} x =
-    let b = head_body s at end x.some in
-    let f = head_forward s at end x.some in
+-- the first of the elements from `at` to `end` lies between them
+pub first_inside : (s : List ℕ) (at end : ℕ) (h : Head) → at < end → h ≡ head_of s at end → (at < h.body) × (h.body ≤ h.end) × (h.end ≤ end)
+first_inside s at end h l i =
+    let b = head_body s at end l in
+    let f = head_forward s at end l in
     let k = head_start s at end in
-    rw x.is (omega arith, omega arith, omega arith)
+    rw i (omega arith, omega arith, omega arith)
 
--- the elements of a list, by the first of them
-module _ {s : List ℕ} {p : Slots} {at end : ℕ} (o : ℕ) (x : First s p at end) where
+-- The elements from `at` to `end`, by the first of them: what was found for it among the fields p, and whether it may stand there.
+module _ (s : List ℕ) (o : ℕ) (p : Slots) (at end : ℕ) (h : Head) (found : Found) (good : Bool) (l : at < end) (i : h ≡ head_of s at end)
+    (f : field_at found ≡ field_for p h.tag) (g : good ≡ may_stand (alternative_at found.row) s h) where
+  abbrev after : List Head
+  after = children_of s h.end end
+
   -- the elements after it, against the fields that are left for them
-  abbrev rest : Verdict
-  rest = follows (slots_at x.found.next) s o (children_of s x.h.end end)
+  abbrev left : Verdict
+  left = follows (slots_at found.next) s o after
 
-  first_row : follows p s o (children_of s at end) ≡ cond x.good (and_then (members_follow s x.h (inside_of x.found.row)) rest) (Wrong x.h.at)
-  first_row =
-      rw x.judged (first ∙ (element_follows s x.h o others p ∙ (ap (onward s x.h o others) (sym x.field) ∙ go (eqb x.found.row 0))))
+  first_row : follows p s o (children_of s at end) ≡ cond good (result_and (members_follow s h (inside_of found.row)) left) (Err (Wrong h.at))
+  first_row = rw g (first ∙ (element_follows s h o after p ∙ (ap (onward s h o after) (sym f) ∙ go (eqb found.row 0))))
     where
-      others : List Head
-      others = children_of s x.h.end end
-
-      first : follows p s o (children_of s at end) ≡ follows p s o (x.h ∷ others)
-      first = rw x.is (ap (follows p s o) (children_next s at end x.some))
+      first : follows p s o (children_of s at end) ≡ follows p s o (h ∷ after)
+      first = rw i (ap (follows p s o) (children_next s at end l))
 
       go : (b : Bool)
-          → onward s x.h o others (cond b nowhere (here (inside_of x.found.row) (slots_at x.found.next)))
-          ≡ cond (may_stand (cond b nobody (holding (inside_of x.found.row))) s x.h) (and_then (members_follow s x.h (inside_of x.found.row)) rest)
-          (Wrong x.h.at)
+          → onward s h o after (cond b nowhere (here (inside_of found.row) (slots_at found.next)))
+          ≡ cond (may_stand (cond b nobody (holding (inside_of found.row))) s h) (result_and (members_follow s h (inside_of found.row)) left)
+          (Err (Wrong h.at))
       go true = refl
       go false = refl
 
-  pub stands_not : not x.good ≡ true → follows p s o (children_of s at end) ≡ Wrong x.h.at
-  stands_not t = rw (first_row, not-true x.good t)
+  pub stands_not : good ≡ false → follows p s o (children_of s at end) ≡ Err (Wrong h.at)
+  stands_not t = rw (first_row, t)
 
-  pub stands : not x.good ≡ false → x.found.row % 128 < test_count → follows p s o (children_of s at end) ≡ rest
-  stands t l = rw (first_row, not-false x.good t, lt-ltb (x.found.row % 128) test_count l)
+  pub stands : good ≡ true → found.row % 128 < test_count → follows p s o (children_of s at end) ≡ left
+  stands t m = rw (first_row, t, lt-ltb (found.row % 128) test_count m)
 
   -- v is what the walk of its members says
-  module _ (t : not x.good ≡ false) (l : test_count ≤ x.found.row % 128) (v : Verdict)
-      (k : v ≡ follows (slots_at (x.found.row % 128 - test_count)) s x.h.at (children_of s x.h.body x.h.end))
-      (well : Bool) (w : well ≡ is_fits v) where
-    by_members : follows p s o (children_of s at end) ≡ cond well rest v
-    by_members = rw (first_row, not-false x.good t, le-ltb (x.found.row % 128) test_count l, w, k) (go (eqb (x.found.row / 128 % 2) 0))
-      where
-        fields : Slots
-        fields = slots_at (x.found.row % 128 - test_count)
+  by_members : good ≡ true → test_count ≤ found.row % 128 → (v : Verdict)
+      → v ≡ follows (slots_at (found.row % 128 - test_count)) s h.at (children_of s h.body h.end)
+      → follows p s o (children_of s at end) ≡ result_and v left
+  by_members t m v k = rw (first_row, t, le-ltb (found.row % 128) test_count m, k) (go (eqb (found.row / 128 % 2) 0))
+    where
+      fields : Slots
+      fields = slots_at (found.row % 128 - test_count)
 
-        go : (b : Bool) → and_then (members_follow s x.h (cond b (Inside.parts fields) (Inside.set fields))) rest
-            ≡ and_then (follows fields s x.h.at (children_of s x.h.body x.h.end)) rest
-        go true = refl
-        go false = refl
+      go : (b : Bool) → result_and (members_follow s h (cond b (Inside.parts fields) (Inside.set fields))) left
+          ≡ result_and (follows fields s h.at (children_of s h.body h.end)) left
+      go true = refl
+      go false = refl
 
-    pub members_stand : not well ≡ false → follows p s o (children_of s at end) ≡ rest
-    members_stand y = rw (by_members, not-false well y)
+  module _ (t : good ≡ true) (m : test_count ≤ found.row % 128) (v : Verdict)
+      (k : v ≡ follows (slots_at (found.row % 128 - test_count)) s h.at (children_of s h.body h.end)) where
+    pub members_stand : {u : Unit {0}} → v ≡ Ok u → follows p s o (children_of s at end) ≡ left
+    members_stand y = rw (by_members t m v k, y)
 
-    pub members_not : not well ≡ true → follows p s o (children_of s at end) ≡ v
-    members_not y = rw (by_members, not-true well y)
+    pub members_not : {e : Misfit} → v ≡ Err e → follows p s o (children_of s at end) ≡ Err e
+    members_not y = rw (by_members t m v k, y)
 
 pub all_stand : (s : List ℕ) (o : ℕ) (p : Slots) (at end : ℕ) → end ≤ at → follows p s o (children_of s at end) ≡ lacking p o
 all_stand s o p at end le = rw (children_done s at end le) (none_follows s o p)

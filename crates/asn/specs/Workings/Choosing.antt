@@ -1,15 +1,14 @@
 -- Which alternative of a type, and which field of a list, takes an element: its identifier octet alone says so. The interpreter goes by them;
 -- `proofs/Laws/Choosing.antt` proves that this comes to what `Grammar` says.
 -- How the code goes about it: named by contracts of functions that no other crate can call, and by nothing else of `specs/`.
-use Rattle.std.specs.Prelude.{Bool, true, false, cond, List, ℕ}
-use Rattle.asn.specs.Grammar.{Form, Inside, Slots, passes, set_in_order, takes}
+use Rattle.std.specs.Prelude.{Bool, true, false, cond, List, ℕ, Ok, Err}
+use Rattle.asn.specs.Grammar.{Form, Inside, Slots, passes, set_in_order, takes, Verdict}
 use Rattle.asn.specs.Grammar.Form.{none, alt}
 use Rattle.asn.specs.Grammar.Inside.{leaf, parts, set}
 use Rattle.asn.specs.Grammar.Slots.{done, one, opt, many}
-use Rattle.asn.specs.declared.fitting.Verdict.{Verdict}
-use Rattle.asn.specs.declared.fitting.Verdict.TheVariants.{Fits, Wrong}
 use Rattle.der.specs.Contents.{contents_of}
 use Rattle.der.specs.declared.header.Head.{Head}
+use Rattle.asn.specs.declared.fitting.Misfit.TheVariants.{Wrong}
 
 -- an alternative, by what it holds
 pub data Alternative : Type 0 where
@@ -45,7 +44,7 @@ may_stand (holding (set p)) s h = set_in_order s h
 
 -- the fields that are left once no element is
 abbrev pub lacking : Slots → ℕ → Verdict
-lacking done outer = Fits
-lacking (one f p) outer = Wrong outer
+lacking done outer = Ok tt
+lacking (one f p) outer = Err (Wrong outer)
 lacking (opt f p) outer = lacking p outer
 lacking (many f p) outer = lacking p outer

@@ -25,23 +25,24 @@ use Rattle.der.proofs.Laws.Members.{children_first}
 use Rattle.der.specs.Contents.{contents_of}
 use Rattle.times.specs.Reads.{time_of}
 use Rattle.times.specs.declared.validity.Time.{Time}
-use Rattle.asn.specs.Grammar.{Form, Inside, takes, fits, holds}
+use Rattle.asn.specs.Grammar.{Form, Inside, takes, fits, holds, Verdict}
 use Rattle.asn.specs.Answers.{certificate_verdict}
 use Rattle.asn.specs.Module.{explicit, free, version, time, validity, extensions}
 use Rattle.asn.specs.Grammar.Form.{none, alt}
 use Rattle.asn.proofs.Terms.Fields.{Optional, Outermost, TbsFields}
 use Rattle.asn.proofs.Terms.Fields.Optional.{absent, present}
-use Rattle.asn.specs.declared.fitting.Verdict.TheVariants.{Stranger, Fits, Wrong}
 use Rattle.asn.proofs.Laws.Fields.{takes_tag, parts_fit, one_fits, done_fits, certificate_fields, tbs_fields}
 use Rattle.der.specs.Members.{first_in, after, past, inside_tag}
+use Rattle.asn.specs.declared.fitting.Misfit.TheVariants.{Stranger, Wrong}
+use Rattle.std.specs.Prelude.{Ok, Err}
 
 -- ---- identifiers
 
-pub fit_tag : (i : ℕ) (x : Inside) (s : List ℕ) (h : Head) → eqb i 0 ≡ false → fits (alt i x none) s h ≡ Fits → h.tag ≡ i
+pub fit_tag : (i : ℕ) (x : Inside) (s : List ℕ) (h : Head) → eqb i 0 ≡ false → fits (alt i x none) s h ≡ Ok tt → h.tag ≡ i
 unfolding fits
 fit_tag i x s h z e = takes_tag i h.tag z (go (takes i h.tag) e)
   where
-    go : (b : Bool) → cond b (holds x s h) Stranger ≡ Fits → b ≡ true
+    go : (b : Bool) → cond b (holds x s h) (Err Stranger) ≡ Ok tt → b ≡ true
     go true e = refl
     go false e = cc
 
@@ -92,7 +93,7 @@ module _ (s : List ℕ) (end : ℕ) where
   stands_still tag h xs t k = rw (ne_eqb h.tag tag t) k
 
   -- past an optional field, where what follows has another tag
-  pub stands_optional : (f : Form) (tag : ℕ) (h : Head) (front rest : List Head) → ((x : Head) → fits f s x ≡ Fits → x.tag ≡ tag)
+  pub stands_optional : (f : Form) (tag : ℕ) (h : Head) (front rest : List Head) → ((x : Head) → fits f s x ≡ Ok tt → x.tag ≡ tag)
       → ((x : Head) → Stands s end x rest → x.tag ≡ tag → ⊥) → Optional f s front → Stands s end h (front ++ rest)
       → Stands s end (past tag s h end) rest
   stands_optional f tag h [] rest fit other absent k = stands_still tag h rest (other h k) k
@@ -100,7 +101,7 @@ module _ (s : List ℕ) (end : ℕ) where
   stands_optional f tag h (x ∷ (_ ∷ _)) rest fit other x9 k = elim x9 [ ]
 
   -- what stands there has the optional field's tag, or the tag of what follows: so not a third one
-  optional_other : (f : Form) (tag third : ℕ) (front rest : List Head) → ((x : Head) → fits f s x ≡ Fits → x.tag ≡ tag) → (tag ≡ third → ⊥)
+  optional_other : (f : Form) (tag third : ℕ) (front rest : List Head) → ((x : Head) → fits f s x ≡ Ok tt → x.tag ≡ tag) → (tag ≡ third → ⊥)
       → ((x : Head) → Stands s end x rest → x.tag ≡ third → ⊥) → Optional f s front → (x : Head) → Stands s end x (front ++ rest)
       → x.tag ≡ third → ⊥
   optional_other f tag third [] rest fit apart other absent x k t = other x k t
@@ -114,17 +115,19 @@ is_some_lem : (r : Option Time) → is_some r ≡ true → r ≡ Some (unwrap_or
 is_some_lem (Some t) e = refl
 is_some_lem None e = cc
 
-time_named : (s : List ℕ) (h : Head) → fits time s h ≡ Fits → time_of h.tag (contents_of s h) ≡ Some (time_in s h)
+time_named : (s : List ℕ) (h : Head) → fits time s h ≡ Ok tt → time_of h.tag (contents_of s h) ≡ Some (time_in s h)
 unfolding time fits holds time_in
 time_named s h e = is_some_lem (time_of h.tag (contents_of s h)) (by_tag (eqb 23 h.tag) (eqb 24 h.tag) refl refl e)
   where
-    passed : (tag : ℕ) (b : Bool) → cond b Fits (Wrong tag) ≡ Fits → b ≡ true
+    passed : (tag : ℕ) (b : Bool) → ◌≡◌ {A = Verdict} (cond b (Ok tt) (Err (Wrong tag))) (Ok tt) → b ≡ true
     passed tag true e = refl
     passed tag false e = cc
 
     by_tag : (a b : Bool) → eqb 23 h.tag ≡ a → eqb 24 h.tag ≡ b
-        → cond a (cond (is_some (time_of 23 (contents_of s h))) Fits (Wrong h.at))
-        (cond b (cond (is_some (time_of 24 (contents_of s h))) Fits (Wrong h.at)) Stranger) ≡ Fits
+        → ◌≡◌ {A = Verdict}
+        (cond a (cond (is_some (time_of 23 (contents_of s h))) (Ok tt) (Err (Wrong h.at)))
+        (cond b (cond (is_some (time_of 24 (contents_of s h))) (Ok tt) (Err (Wrong h.at))) (Err Stranger)))
+        (Ok tt)
         → is_some (time_of h.tag (contents_of s h)) ≡ true
     by_tag true b p q e =
         ap (λ (t : ℕ). is_some (time_of t (contents_of s h))) (sym (eqb-true 23 h.tag p)) ∙ passed h.at
@@ -138,10 +141,10 @@ time_named s h e = is_some_lem (time_of h.tag (contents_of s h)) (by_tag (eqb 23
 
 record TimesNamed (s : List ℕ) (period : Head) : Type 0 where
   is : children_of s period.body period.end ≡ not_before_in s period ∷ not_after_in s period ∷ []
-  before : fits time s (not_before_in s period) ≡ Fits
-  later : fits time s (not_after_in s period) ≡ Fits
+  before : fits time s (not_before_in s period) ≡ Ok tt
+  later : fits time s (not_after_in s period) ≡ Ok tt
 
-times_named : (s : List ℕ) (period : Head) → fits validity s period ≡ Fits → TimesNamed s period
+times_named : (s : List ℕ) (period : Head) → fits validity s period ≡ Ok tt → TimesNamed s period
 unfolding validity not_before_in not_after_in
 times_named s period e =
     let k = (parts_fit 0x30 _ s period e).1 in
@@ -173,7 +176,7 @@ extensions_named s end x (h ∷ (_ ∷ _)) x7 k = elim x7 [ ]
 
 -- ---- all fields
 
-module _ (s : List ℕ) (e : certificate_verdict s ≡ Fits) where
+module _ (s : List ℕ) (e : certificate_verdict s ≡ Ok tt) where
   outermost : Outermost s (children_of s 0 (length s))
   outermost = certificate_fields s e
 

@@ -20,17 +20,17 @@ use Rattle.certificate.proofs.Terms.Named.ParametersNamed.{lacking, given}
 use Rattle.der.specs.Header.{children_of}
 use Rattle.der.specs.declared.header.Head.{Head}
 use Rattle.der.proofs.Laws.Children.{children_done}
-use Rattle.asn.specs.Grammar.{Form, unless_wrong, fits, follows}
+use Rattle.asn.specs.Grammar.{Form, unless_wrong, fits, follows, Verdict}
 use Rattle.asn.specs.Grammar.Slots.{done, many}
 use Rattle.asn.specs.Answers.{certificate_verdict}
 use Rattle.asn.specs.Module.{boolean_true, extension, extensions, algorithm_identifier, subject_public_key_info}
 use Rattle.asn.proofs.Terms.Fields.{Optional}
 use Rattle.asn.proofs.Terms.Fields.Optional.{absent, present}
-use Rattle.asn.specs.declared.fitting.Verdict.{Verdict}
-use Rattle.asn.specs.declared.fitting.Verdict.TheVariants.{Stranger, Fits, Wrong}
 use Rattle.asn.proofs.Laws.Fields.{parts_fit, one_fits, opt_fits, done_fits}
 use Rattle.der.specs.Members.{first_in}
 use Rattle.certificate.proofs.Laws.Named.{named, fit_tag, Stands, stands_here, stands_after, stands_optional, stands_unsound}
+use Rattle.asn.specs.declared.fitting.Misfit.TheVariants.{Stranger, Wrong}
+use Rattle.std.specs.Prelude.{Ok, Err}
 
 -- ---- an Extension
 
@@ -47,7 +47,7 @@ critical_named s end second value (b ∷ []) (present f) v k =
     rw one marked
 critical_named s end second value (b ∷ (_ ∷ _)) x7 v k = elim x7 [ ]
 
-pub extension_named : (s : List ℕ) (h : Head) → fits extension s h ≡ Fits → ExtensionNamed s h
+pub extension_named : (s : List ℕ) (h : Head) → fits extension s h ≡ Ok tt → ExtensionNamed s h
 unfolding extension extension_of
 extension_named s h e =
     let k = (parts_fit 0x30 _ s h e).1 in
@@ -76,18 +76,18 @@ extension_named s h e =
       critical = critical_named s h.end _ v.first b.front b.fit four second;
     }
 
-all_named : (s : List ℕ) (o : ℕ) (hs : List Head) → follows (many extension done) s o hs ≡ Fits → AllNamed s hs
+all_named : (s : List ℕ) (o : ℕ) (hs : List Head) → follows (many extension done) s o hs ≡ Ok tt → AllNamed s hs
 unfolding follows
 all_named s o [] e = none
 all_named s o (h ∷ hs) e = go (fits extension s h) refl e (all_named s o hs)
   where
-    go : (v : Verdict) → fits extension s h ≡ v → unless_wrong v (follows done s o (h ∷ hs)) (follows (many extension done) s o hs) ≡ Fits
-        → (follows (many extension done) s o hs ≡ Fits → AllNamed s hs) → AllNamed s (h ∷ hs)
-    go Stranger f e rest = let z : ◌≡◌ {A = ℕ} 0 1 = cc in absurd (omega arith)
-    go Fits f e rest = more (extension_named s h f) (rest e)
-    go (Wrong p) f e rest = let z : ◌≡◌ {A = ℕ} 0 1 = cc in absurd (omega arith)
+    go : (v : Verdict) → fits extension s h ≡ v → unless_wrong v (follows done s o (h ∷ hs)) (follows (many extension done) s o hs) ≡ Ok tt
+        → (follows (many extension done) s o hs ≡ Ok tt → AllNamed s hs) → AllNamed s (h ∷ hs)
+    go (Err Stranger) f e rest = let z : ◌≡◌ {A = ℕ} 0 1 = cc in absurd (omega arith)
+    go (Ok _) f e rest = more (extension_named s h f) (rest e)
+    go (Err (Wrong p)) f e rest = let z : ◌≡◌ {A = ℕ} 0 1 = cc in absurd (omega arith)
 
-pub list_named : (s : List ℕ) (list : Head) → fits extensions s list ≡ Fits → AllNamed s (children_of s list.body list.end)
+pub list_named : (s : List ℕ) (list : Head) → fits extensions s list ≡ Ok tt → AllNamed s (children_of s list.body list.end)
 unfolding extensions
 list_named s list e =
     let k = (parts_fit 0x30 _ s list e).1 in
@@ -102,7 +102,7 @@ parameters_named s end parameters [] f absent k = lacking (stands_unsound s end 
 parameters_named s end parameters (h ∷ []) f (present e) k = given (stands_here s end parameters h [] k)
 parameters_named s end parameters (h ∷ (_ ∷ _)) f x6 k = elim x6 [ ]
 
-pub key_named : (s : List ℕ) (key : Head) → fits subject_public_key_info s key ≡ Fits → KeyNamed s key
+pub key_named : (s : List ℕ) (key : Head) → fits subject_public_key_info s key ≡ Ok tt → KeyNamed s key
 unfolding subject_public_key_info algorithm_identifier key_of
 key_named s key e =
     let k = (parts_fit 0x30 _ s key e).1 in
@@ -134,7 +134,7 @@ key_named s key e =
 
 -- ---- of an accepted certificate
 
-module _ (s : List ℕ) (e : certificate_verdict s ≡ Fits) where
+module _ (s : List ℕ) (e : certificate_verdict s ≡ Ok tt) where
   pub certificate_key_named : KeyNamed s (certificate_of s).key
   certificate_key_named = let n = named s e in key_named s (certificate_of s).key (rw n.key n.fields.key_fits)
 

@@ -24,22 +24,18 @@ use Rattle.octets.proofs.Laws.Tests.{and_l, and_r}
 use Rattle.der.specs.Header.{head_of}
 use Rattle.der.specs.Members.{missing, members_in, first_in, after, second_in, past}
 use Rattle.der.specs.Elements.{is_empty}
-use Rattle.der.specs.Soundness.{is_sound, stretch_soundness}
+use Rattle.der.specs.Soundness.{stretch_soundness}
 use Rattle.der.specs.declared.header.Head.{Head}
-use Rattle.der.specs.declared.walk.Soundness.{Soundness}
-use Rattle.der.specs.declared.walk.Soundness.TheVariants.{Sound, Unsound, Unordered}
 use Rattle.der.proofs.Laws.Header.{head_narrow, head_held}
 use Rattle.der.proofs.Laws.Children.{children_done}
 use Rattle.der.proofs.Laws.Searching.{children_full, missing_empty, first_missing, first_among, first_passes}
-use Rattle.der.proofs.Laws.Walks.{sound_stretch}
-use Rattle.asn.specs.Grammar.{is_fits}
+use Rattle.der.proofs.Laws.Walks.{ok_alone, sound_stretch}
 use Rattle.asn.specs.Module.{value_of}
 use Rattle.asn.specs.Answers.{only_element, value_ok}
-use Rattle.asn.specs.declared.fitting.Verdict.{Verdict}
-use Rattle.asn.specs.declared.fitting.Verdict.TheVariants.{Stranger, Fits, Wrong}
 use Rattle.asn.proofs.Laws.Fields.{one_fits, done_fits}
 use Rattle.certificate.proofs.Laws.Named.{stands_here}
 use Rattle.certificate.proofs.Laws.Slots.{unread, by_slot_at, by_slot_same}
+use Rattle.std.specs.Prelude.{Ok, is_ok}
 
 -- ---- of none
 
@@ -130,24 +126,14 @@ read_sound s end h r b =
     let held : (head_of s r.place end).body < (head_of s r.place end).end = rw (← r.is) b in
     ap (λ (y : Head). y.sound) r.is ∙ head_held s r.place end held
 
-is_sound_lem : (v : Soundness) → is_sound v ≡ true → v ≡ Sound
-is_sound_lem Sound e = refl
-is_sound_lem (Unsound p) e = cc
-is_sound_lem (Unordered p) e = cc
-
-is_fits_lem : (v : Verdict) → is_fits v ≡ true → v ≡ Fits
-is_fits_lem Stranger e = cc
-is_fits_lem Fits e = refl
-is_fits_lem (Wrong p) e = cc
-
 module _ (s : List ℕ) (slot : ℕ) (h : Head) (e : value_ok s slot h.body h.end ≡ true) where
-  whole_value : stretch_soundness s h.body h.end ≡ Sound
+  whole_value : stretch_soundness s h.body h.end ≡ Ok tt
   unfolding value_ok
-  whole_value = is_sound_lem _ (and_l (is_sound (stretch_soundness s h.body h.end)) _ e)
+  whole_value = ok_alone _ (and_l (is_ok (stretch_soundness s h.body h.end)) _ e)
 
-  one_value : only_element (value_of slot) s h.body h.end ≡ Fits
+  one_value : only_element (value_of slot) s h.body h.end ≡ Ok tt
   unfolding value_ok
-  one_value = is_fits_lem _ (and_r (is_sound (stretch_soundness s h.body h.end)) _ e)
+  one_value = ok_alone _ (and_r (is_ok (stretch_soundness s h.body h.end)) _ e)
 
   held_value : h.body < h.end
   held_value = go (ltb h.body h.end) refl

@@ -12,16 +12,15 @@ use Rattle.certificate.specs.declared.slots.Slot.{Slot}
 use Rattle.asn.specs.Grammar.{fits}
 use Rattle.asn.specs.Module.{boolean_true, bit_string, octet_string, object_identifier, extensions, value_of}
 use Rattle.asn.proofs.Terms.Fields.{Optional, Outermost, TbsFields}
-use Rattle.asn.specs.declared.fitting.Verdict.TheVariants.{Fits}
 use Rattle.der.specs.Header.{children_of}
 use Rattle.der.specs.Contents.{contents_of}
 use Rattle.der.specs.Elements.{elements_of, is_empty}
 use Rattle.der.specs.Soundness.{soundness, stretch_soundness}
-use Rattle.der.specs.declared.walk.Soundness.TheVariants.{Sound}
 use Rattle.der.specs.Tags.{sequence_tag}
 use Rattle.der.specs.declared.header.Head.{Head}
 use Rattle.times.specs.Reads.{time_of}
 use Rattle.der.specs.Members.{members_in, missing, first_in}
+use Rattle.std.specs.Prelude.{Ok}
 
 -- the [0] comes first, if the version is written; else the serial number does
 pub data VersionNamed (version serial : Head) : List Head → Type 0 where
@@ -31,7 +30,7 @@ pub data VersionNamed (version serial : Head) : List Head → Type 0 where
 -- the extension list is the one member of the [3]; a certificate without a [3] has none
 pub data ExtensionsNamed (s : List ℕ) (list : Head) (end : ℕ) : List Head → Type 0 where
   without : list ≡ missing end → ExtensionsNamed s list end []
-  listed : {h : Head} → members_in s h ≡ list ∷ [] → fits extensions s list ≡ Fits → ExtensionsNamed s list end (h ∷ [])
+  listed : {h : Head} → members_in s h ≡ list ∷ [] → fits extensions s list ≡ Ok tt → ExtensionsNamed s list end (h ∷ [])
 
 pub record Named (s : List ℕ) : Type 0 where
   pub outermost : Outermost s (children_of s 0 (length s))
@@ -61,9 +60,9 @@ pub record ExtensionNamed (s : List ℕ) (h : Head) : Type 0 where
   pub boolean : List Head
   pub tag : h.tag ≡ sequence_tag
   pub is : members_in s h ≡ first_in s h ∷ (boolean ++ ((extension_of s h).value ∷ []))
-  pub identifier_fits : fits object_identifier s (first_in s h) ≡ Fits
+  pub identifier_fits : fits object_identifier s (first_in s h) ≡ Ok tt
   pub boolean_fits : Optional boolean_true s boolean
-  pub value_fits : fits octet_string s (extension_of s h).value ≡ Fits
+  pub value_fits : fits octet_string s (extension_of s h).value ≡ Ok tt
   pub critical : CriticalNamed (extension_of s h).critical boolean
 
 -- every extension of a list
@@ -82,8 +81,8 @@ pub record KeyNamed (s : List ℕ) (key : Head) : Type 0 where
   pub extra : List Head
   pub is : members_in s key ≡ (key_of s key).algorithm ∷ (key_of s key).bits ∷ []
   pub inner : children_of s (key_of s key).algorithm.body (key_of s key).algorithm.end ≡ first_in s (key_of s key).algorithm ∷ extra
-  pub identifier_fits : fits object_identifier s (first_in s (key_of s key).algorithm) ≡ Fits
-  pub bits_fits : fits bit_string s (key_of s key).bits ≡ Fits
+  pub identifier_fits : fits object_identifier s (first_in s (key_of s key).algorithm) ≡ Ok tt
+  pub bits_fits : fits bit_string s (key_of s key).bits ≡ Ok tt
   pub parameters : ParametersNamed (key_of s key).parameters extra
 
 -- ---- the first extension in a slot, where there is one
@@ -102,7 +101,7 @@ pub record ValueNamed (s : List ℕ) (slot : ℕ) (list : Head) (v : Slot) : Typ
   pub there : is_empty v.place ≡ false
   pub named : SlotNamed s slot list v
   pub sound : v.holder.sound ≡ true
-  pub filled : stretch_soundness s v.holder.body v.holder.end ≡ Sound
+  pub filled : stretch_soundness s v.holder.body v.holder.end ≡ Ok tt
   pub alone : members_in s v.holder ≡ v.element ∷ []
-  pub elements : soundness s (elements_of s 16 v.element) ≡ Sound
-  pub element_fits : fits (value_of slot) s v.element ≡ Fits
+  pub elements : soundness s (elements_of s 16 v.element) ≡ Ok tt
+  pub element_fits : fits (value_of slot) s v.element ≡ Ok tt

@@ -23,7 +23,8 @@ use Rattle.der.specs.Soundness.FirstPlace.{nothing, found}
 use Rattle.der.specs.declared.header.Head.{Head}
 use Rattle.der.proofs.Terms.Walking.{Chain}
 use Rattle.der.proofs.Terms.Walking.Chain.{done, next}
-use Rattle.der.specs.declared.walk.Soundness.TheVariants.{Unsound}
+use Rattle.der.specs.declared.walk.Fault.TheVariants.{Unsound}
+use Rattle.std.specs.Prelude.{Err}
 use Rattle.der.proofs.Laws.Header.{head_start, head_forward, head_body}
 use Rattle.der.proofs.Laws.Walking.{children_chain}
 
@@ -122,6 +123,6 @@ module _ (s : List ℕ) where
   unfolding stretch_soundness
   fault_start = go (eqb (head_of s 0 (length s)).end (length s))
     where
-      go : (b : Bool) → ElementStart s (soundness_place (cond b (soundness s (elements_of s 16 (head_of s 0 (length s)))) (Unsound 0)))
+      go : (b : Bool) → ElementStart s (soundness_place (cond b (soundness s (elements_of s 16 (head_of s 0 (length s)))) (Err (Unsound 0))))
       go true = soundness_start (elements_of s 16 (head_of s 0 (length s))) (elements_from 16 (head_of s 0 (length s)) (outer refl))
       go false = outermost_start

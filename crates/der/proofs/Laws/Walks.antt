@@ -1,10 +1,11 @@
 -- The walk over elements within elements, put together from what single elements and lists give.
+--     ok_alone                         where nothing is wrong there is one answer
 --     then_sound, then_assoc           how answers join
 --     soundness_join                   two lists of elements, one behind the other
 --     element_deep, element_bad, element_plain, element_list     an element by the tests that are made of it
 --     list_begins, list_next, list_done                           the members of a list, one by one
 --     stretch_filled, stretch_torn                                the outermost element
---     sound_stretch, sound_self, sound_order, sound_members, sound_next     what an answer of Sound says of each element
+--     sound_stretch, sound_self, sound_order, sound_members, sound_next     what it says of each element that nothing is wrong
 -- Assumes nothing.
 use mathlib.Core.Path.{◌≡◌, refl, sym, ◌∙◌}
 use mathlib.Core.List.{List, [], ◌∷◌, ◌++◌, map}
@@ -18,30 +19,36 @@ use Rattle.der.specs.Contents.{constructed, element_ok}
 use Rattle.der.specs.Order.{octets_le, ascend_from, ascending, octets_of}
 use Rattle.der.specs.Elements.{Node, held_by, joined, elements_of}
 use Rattle.der.specs.Workings.Walk.{members_of, and_then, in_order, sound_list}
-use Rattle.der.specs.Soundness.{faulty, is_set, unordered, FirstPlace, first, judge, soundness, stretch_soundness, is_sound}
+use Rattle.der.specs.Soundness.{faulty, is_set, unordered, FirstPlace, first, judge, Soundness, soundness, stretch_soundness}
 use Rattle.der.specs.Soundness.FirstPlace.{nothing, found}
 use Rattle.der.specs.declared.header.Head.{Head}
-use Rattle.der.specs.declared.walk.Soundness.{Soundness}
-use Rattle.der.specs.declared.walk.Soundness.TheVariants.{Sound, Unsound, Unordered}
+use Rattle.der.specs.declared.walk.Fault.TheVariants.{Unsound, Unordered}
+use Rattle.std.specs.Prelude.{Ok, Err, is_ok, is_err}
+use Rattle.std.specs.declared.result.Result.{Result}
 use Rattle.octets.specs.Octets.{octets_from}
 use Rattle.der.proofs.Laws.Header.{head_start, head_narrow}
 use Rattle.der.proofs.Laws.Children.{children_done, children_next}
 
 -- ---- answers
 
-pub then_sound : (a : Soundness) → and_then a Sound ≡ a
-then_sound Sound = refl
-then_sound (Unsound p) = refl
-then_sound (Unordered p) = refl
+-- where nothing is wrong there is one answer
+pub ok_alone : {E : Type 0} (v : Result (Unit {0}) E) → is_ok v ≡ true → v ≡ Ok tt
+ok_alone (Ok _) e = refl
+ok_alone (Err p) e = cc
+
+pub then_sound : (a : Soundness) → and_then a (Ok tt) ≡ a
+then_sound (Ok _) = refl
+then_sound (Err (Unsound p)) = refl
+then_sound (Err (Unordered p)) = refl
 
 pub then_assoc : (a b c : Soundness) → and_then a (and_then b c) ≡ and_then (and_then a b) c
-then_assoc Sound b c = refl
-then_assoc (Unsound p) b c = refl
-then_assoc (Unordered p) Sound c = refl
-then_assoc (Unordered p) (Unsound q) c = refl
-then_assoc (Unordered p) (Unordered q) Sound = refl
-then_assoc (Unordered p) (Unordered q) (Unsound r) = refl
-then_assoc (Unordered p) (Unordered q) (Unordered r) = refl
+then_assoc (Ok _) b c = refl
+then_assoc (Err (Unsound p)) b c = refl
+then_assoc (Err (Unordered p)) (Ok _) c = refl
+then_assoc (Err (Unordered p)) (Err (Unsound q)) c = refl
+then_assoc (Err (Unordered p)) (Err (Unordered q)) (Ok _) = refl
+then_assoc (Err (Unordered p)) (Err (Unordered q)) (Err (Unsound r)) = refl
+then_assoc (Err (Unordered p)) (Err (Unordered q)) (Err (Unordered r)) = refl
 
 -- ---- lists of elements
 
@@ -75,7 +82,7 @@ soundness_join s xs ys =
 
 -- ---- one element
 
-pub element_deep : (s : List ℕ) (depth : ℕ) (h : Head) → depth ≡ 0 → soundness s (elements_of s depth h) ≡ Unsound h.at
+pub element_deep : (s : List ℕ) (depth : ℕ) (h : Head) → depth ≡ 0 → soundness s (elements_of s depth h) ≡ Err (Unsound h.at)
 unfolding soundness elements_of first
 element_deep s depth h e = rw e
 
@@ -88,7 +95,7 @@ opened s (suc d) h f =
     let e : suc d - 1 ≡ d = omega arith in
     rw e (soundness_join s (record { head = h; levels = suc d } ∷ []) (joined (elements_of s d) (held_by s h)))
 
-alone_bad : (s : List ℕ) (d : ℕ) (h : Head) → (d ≡ 0 → ⊥) → element_ok s h ≡ false → soundness s (record { head = h; levels = d } ∷ []) ≡ Unsound h.at
+alone_bad : (s : List ℕ) (d : ℕ) (h : Head) → (d ≡ 0 → ⊥) → element_ok s h ≡ false → soundness s (record { head = h; levels = d } ∷ []) ≡ Err (Unsound h.at)
 unfolding soundness first
 alone_bad s d h f e = rw (ne_eqb d 0 f, e)
 
@@ -104,15 +111,15 @@ alone_good s d h f e = rw (ne_eqb d 0 f, e) (go (is_set h) (ascending (map (octe
 
 -- `good` is whether it is sound by itself, `inner` whether it is constructed
 module _ (s : List ℕ) (depth : ℕ) (h : Head) (good : Bool) (f : depth ≡ 0 → ⊥) (g : good ≡ element_ok s h) where
-  pub element_bad : good ≡ false → soundness s (elements_of s depth h) ≡ Unsound h.at
+  pub element_bad : good ≡ false → soundness s (elements_of s depth h) ≡ Err (Unsound h.at)
   element_bad e = rw (opened s depth h f, alone_bad s depth h f (sym g ∙ e))
 
   module _ (inner : Bool) (e : good ≡ true) (i : inner ≡ constructed h.tag) where
-    pub element_plain : inner ≡ false → soundness s (elements_of s depth h) ≡ Sound
+    pub element_plain : inner ≡ false → soundness s (elements_of s depth h) ≡ Ok tt
     unfolding soundness first ascend_from
     element_plain k = rw (opened s depth h f, alone_good s depth h f (sym g ∙ e), ← i, k) (go (is_set h))
       where
-        go : (set : Bool) → and_then (in_order (not set || true) h.at) Sound ≡ Sound
+        go : (set : Bool) → and_then (in_order (not set || true) h.at) (Ok tt) ≡ Ok tt
         go true = refl
         go false = refl
 
@@ -129,7 +136,7 @@ module _ (s : List ℕ) (depth at : ℕ) (set : Bool) (body end : ℕ) where
       and_then (in_order (ascends && (not set || ascend_from x (map (octets_of s) (children_of s i end)))) at)
       (and_then so_far (soundness s (members_of s depth i end)))
 
-  pub list_begins : sound_list s depth at set body end ≡ list_from true Sound (octets_from s body (body - body)) body
+  pub list_begins : sound_list s depth at set body end ≡ list_from true (Ok tt) (octets_from s body (body - body)) body
   unfolding octets_from
   list_begins = let z : body - body ≡ 0 = omega arith in rw z
 
@@ -172,19 +179,19 @@ module _ (s : List ℕ) (depth at : ℕ) (set : Bool) (body end : ℕ) where
 
 -- ---- the outermost element
 
--- a walk's answer is the same, whether or not it is asked where it is Sound
-pub then_if : (a v next : Soundness) (t : Bool) → t ≡ is_sound v → t ≡ true → next ≡ a → next ≡ and_then a v
-then_if a Sound next t e f g = g ∙ sym (then_sound a)
-then_if a (Unsound p) next t e f g = cc
-then_if a (Unordered p) next t e f g = cc
+-- a walk's answer is the same, whether or not it is asked where nothing is wrong
+pub then_if : (a v next : Soundness) (t : Bool) → t ≡ is_err v → t ≡ false → next ≡ a → next ≡ and_then a v
+then_if a (Ok _) next t e f g = g ∙ sym (then_sound a)
+then_if a (Err (Unsound p)) next t e f g = cc
+then_if a (Err (Unordered p)) next t e f g = cc
 
 module _ (s : List ℕ) (at end : ℕ) where
-  pub stretch_empty : end ≤ at → stretch_soundness s at end ≡ Unsound at
+  pub stretch_empty : end ≤ at → stretch_soundness s at end ≡ Err (Unsound at)
   unfolding stretch_soundness elements_of soundness first element_ok
   stretch_empty l = rw (head_narrow s at end (omega arith), eq-eqb end end refl)
 
   module _ (h : Head) (e : h ≡ head_of s at end) where
-    pub stretch_torn : (h.end ≡ end → ⊥) → stretch_soundness s at end ≡ Unsound at
+    pub stretch_torn : (h.end ≡ end → ⊥) → stretch_soundness s at end ≡ Err (Unsound at)
     unfolding stretch_soundness
     stretch_torn p = cc (ne_eqb h.end end p)
 
@@ -196,26 +203,26 @@ module _ (s : List ℕ) (at end : ℕ) where
         rw (← e, eq-eqb h.end end p, children_next s at end l, ← e, done)
         (sym (soundness_join s (elements_of s 16 h) [] ∙ then_sound (soundness s (elements_of s 16 h))))
 
--- ---- what an answer of Sound says of the elements
+-- ---- what it says of the elements that nothing is wrong
 
-pub then_parts : (a b : Soundness) → and_then a b ≡ Sound → (a ≡ Sound) × (b ≡ Sound)
-then_parts Sound b e = (refl, e)
-then_parts (Unsound p) b e = (e, cc)
-then_parts (Unordered p) Sound e = (e, refl)
-then_parts (Unordered p) (Unsound q) e = (cc, e)
-then_parts (Unordered p) (Unordered q) e = (e, cc)
+pub then_parts : (a b : Soundness) → and_then a b ≡ Ok tt → (a ≡ Ok tt) × (b ≡ Ok tt)
+then_parts (Ok _) b e = (refl, e)
+then_parts (Err (Unsound p)) b e = (e, cc)
+then_parts (Err (Unordered p)) (Ok _) e = (e, refl)
+then_parts (Err (Unordered p)) (Err (Unsound q)) e = (cc, e)
+then_parts (Err (Unordered p)) (Err (Unordered q)) e = (e, cc)
 
-pub sound_stretch : (s : List ℕ) (at end : ℕ) → stretch_soundness s at end ≡ Sound
-    → ((head_of s at end).end ≡ end) × (soundness s (elements_of s 16 (head_of s at end)) ≡ Sound)
+pub sound_stretch : (s : List ℕ) (at end : ℕ) → stretch_soundness s at end ≡ Ok tt
+    → ((head_of s at end).end ≡ end) × (soundness s (elements_of s 16 (head_of s at end)) ≡ Ok tt)
 unfolding stretch_soundness
 sound_stretch s at end e = go (eqb (head_of s at end).end end) refl e
   where
-    go : (b : Bool) → eqb (head_of s at end).end end ≡ b → cond b (soundness s (elements_of s 16 (head_of s at end))) (Unsound at) ≡ Sound
-        → ((head_of s at end).end ≡ end) × (soundness s (elements_of s 16 (head_of s at end)) ≡ Sound)
+    go : (b : Bool) → eqb (head_of s at end).end end ≡ b → cond b (soundness s (elements_of s 16 (head_of s at end))) (Err (Unsound at)) ≡ Ok tt
+        → ((head_of s at end).end ≡ end) × (soundness s (elements_of s 16 (head_of s at end)) ≡ Ok tt)
     go true f g = (eqb-true (head_of s at end).end end f, g)
     go false f g = (cc, cc)
 
-module _ (s : List ℕ) (levels : ℕ) (h : Head) (e : soundness s (elements_of s levels h) ≡ Sound) where
+module _ (s : List ℕ) (levels : ℕ) (h : Head) (e : soundness s (elements_of s levels h) ≡ Ok tt) where
   pub sound_depth : levels ≡ 0 → ⊥
   sound_depth z = let n : ◌≡◌ {A = ℕ} 0 1 = cc (element_deep s levels h z) in omega arith
 
@@ -227,22 +234,22 @@ module _ (s : List ℕ) (levels : ℕ) (h : Head) (e : soundness s (elements_of 
       go false f = cc (element_bad s levels h (element_ok s h) sound_depth refl f)
 
   module _ (c : constructed h.tag ≡ true) where
-    parts : (in_order (not (is_set h) || ascending (map (octets_of s) (children_of s h.body h.end))) h.at ≡ Sound) ×
-        (soundness s (members_of s (levels - 1) h.body h.end) ≡ Sound)
+    parts : (in_order (not (is_set h) || ascending (map (octets_of s) (children_of s h.body h.end))) h.at ≡ Ok tt) ×
+        (soundness s (members_of s (levels - 1) h.body h.end) ≡ Ok tt)
     parts = then_parts _ _ (sym (element_list s levels h (element_ok s h) sound_depth refl (constructed h.tag) sound_self refl c) ∙ e)
 
     pub sound_order : (not (is_set h) || ascending (map (octets_of s) (children_of s h.body h.end))) ≡ true
     sound_order = go (not (is_set h) || ascending (map (octets_of s) (children_of s h.body h.end))) parts.0
       where
-        go : (b : Bool) → in_order b h.at ≡ Sound → b ≡ true
+        go : (b : Bool) → in_order b h.at ≡ Ok tt → b ≡ true
         go true f = refl
         go false f = cc
 
-    pub sound_members : soundness s (members_of s (levels - 1) h.body h.end) ≡ Sound
+    pub sound_members : soundness s (members_of s (levels - 1) h.body h.end) ≡ Ok tt
     sound_members = parts.1
 
-pub sound_next : (s : List ℕ) (levels at end : ℕ) → at < end → soundness s (members_of s levels at end) ≡ Sound
-    → (soundness s (elements_of s levels (head_of s at end)) ≡ Sound) × (soundness s (members_of s levels (head_of s at end).end end) ≡ Sound)
+pub sound_next : (s : List ℕ) (levels at end : ℕ) → at < end → soundness s (members_of s levels at end) ≡ Ok tt
+    → (soundness s (elements_of s levels (head_of s at end)) ≡ Ok tt) × (soundness s (members_of s levels (head_of s at end).end end) ≡ Ok tt)
 sound_next s levels at end l e =
     then_parts _ _ (sym (soundness_join s (elements_of s levels (head_of s at end)) (members_of s levels (head_of s at end).end end)) ∙ rw
     (children_next s at end l) at e)

@@ -20,7 +20,6 @@ use Rattle.asn.specs.Grammar.Slots.{done}
 use Rattle.asn.specs.Answers.{certificate_verdict}
 use Rattle.asn.specs.Module.{certificate, tbs_certificate, validity}
 use Rattle.asn.proofs.Terms.Fields.{TbsFields}
-use Rattle.asn.specs.declared.fitting.Verdict.TheVariants.{Fits}
 use Rattle.asn.proofs.Laws.Fields.{one_fits}
 use Rattle.certificate.specs.Fields.{certificate_of}
 use Rattle.certificate.proofs.Terms.Named.{VersionNamed}
@@ -28,6 +27,7 @@ use Rattle.certificate.proofs.Terms.Named.VersionNamed.{unwritten, written}
 use Rattle.certificate.proofs.Laws.Named.{named}
 use Rattle.der.proofs.Laws.Members.{children_first}
 use Rattle.der.specs.Members.{members_in}
+use Rattle.std.specs.Prelude.{Ok}
 
 pub record FieldElements (s : List ℕ) : Type 0 where
   pub tbs : Element s (certificate_of s).tbs
@@ -42,7 +42,7 @@ pub record FieldElements (s : List ℕ) : Type 0 where
   pub subject : Element s (certificate_of s).subject
   pub key : Element s (certificate_of s).key
 
-module _ (s : List ℕ) (e : certificate_verdict s ≡ Fits) where
+module _ (s : List ℕ) (e : certificate_verdict s ≡ Ok tt) where
   -- ---- the members of the outermost element
 
   abbrev whole : Head
@@ -51,7 +51,7 @@ module _ (s : List ℕ) (e : certificate_verdict s ≡ Fits) where
   abbrev tbs : Head
   tbs = (named s e).outermost.members.tbs
 
-  whole_fits : fits certificate s whole ≡ Fits
+  whole_fits : fits certificate s whole ≡ Ok tt
   unfolding certificate_verdict
   whole_fits =
       let a = one_fits certificate done s 0 (children_of s 0 (length s)) e in

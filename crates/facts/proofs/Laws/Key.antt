@@ -9,15 +9,15 @@ use Rattle.facts.specs.Elements.{subject_key, Element}
 use Rattle.asn.specs.Grammar.{fits}
 use Rattle.asn.specs.Answers.{certificate_verdict}
 use Rattle.asn.specs.Module.{subject_public_key_info}
-use Rattle.asn.specs.declared.fitting.Verdict.TheVariants.{Fits}
 use Rattle.certificate.specs.Fields.{certificate_of}
 use Rattle.certificate.proofs.Laws.Named.{named}
 use Rattle.certificate.proofs.Laws.Parts.{certificate_key_named}
 use Rattle.facts.proofs.Laws.Members.{AllMembers, here, among, members_of_lem}
 use Rattle.facts.proofs.Laws.Fields.{field_elements}
+use Rattle.std.specs.Prelude.{Ok}
 
-module _ (s : List ℕ) (e : certificate_verdict s ≡ Fits) where
-  key_fits : fits subject_public_key_info s (certificate_of s).key ≡ Fits
+module _ (s : List ℕ) (e : certificate_verdict s ≡ Ok tt) where
+  key_fits : fits subject_public_key_info s (certificate_of s).key ≡ Ok tt
   key_fits = rw (named s e).key (named s e).fields.key_fits
 
   in_key : AllMembers s (certificate_of s).key

@@ -28,7 +28,6 @@ use Rattle.asn.specs.Module.{extensions, explicit, value_of}
 use Rattle.asn.specs.Answers.{certificate_verdict}
 use Rattle.asn.proofs.Terms.Fields.{Optional}
 use Rattle.asn.proofs.Terms.Fields.Optional.{absent, present}
-use Rattle.asn.specs.declared.fitting.Verdict.TheVariants.{Fits}
 use Rattle.certificate.specs.Fields.{certificate_of}
 use Rattle.certificate.specs.Extensions.{extension_of}
 use Rattle.certificate.specs.Slots.{slot_count, empty_slot, slots_of}
@@ -45,6 +44,7 @@ use Rattle.certificate.proofs.Laws.Standing.{standing_is, table_at}
 use Rattle.certificate.proofs.Laws.Values.{slot_there, slot_good}
 use Rattle.report.specs.Order.{In}
 use Rattle.facts.proofs.Laws.Fields.{field_elements, in_extended}
+use Rattle.std.specs.Prelude.{Ok}
 
 named_in : {s : List ℕ} {h : Head} {hs : List Head} → AllNamed s hs → In h hs → ExtensionNamed s h
 named_in none i = absurd (Memᴰ.not-nil i)
@@ -60,14 +60,14 @@ pub record ThereOk (s : List ℕ) (x : Extension) : Type 0 where
 pub record GoodOk (s : List ℕ) (k : ℕ) (x : Extension) (v : Head) : Type 0 where
   pub there : ThereOk s x
   pub element : Element s v
-  pub fit : fits (value_of k) s v ≡ Fits
+  pub fit : fits (value_of k) s v ≡ Ok tt
 
 abbrev pub StandingOk : List ℕ → ℕ → Standing → Type 0
 StandingOk s k Standing.missing = Unit {0}
 StandingOk s k (Standing.bad x) = ThereOk s x
 StandingOk s k (Standing.good x v) = GoodOk s k x v
 
-module _ (s : List ℕ) (e : certificate_verdict s ≡ Fits) where
+module _ (s : List ℕ) (e : certificate_verdict s ≡ Ok tt) where
   abbrev list : Head
   list = (certificate_of s).extensions
 
@@ -79,7 +79,7 @@ module _ (s : List ℕ) (e : certificate_verdict s ≡ Fits) where
     no_list : list.sound ≡ false → extensions_of s ≡ [] → Listed
     one_list : Element s list → AllElements s (extensions_of s) → Listed
 
-  in_fitting : fits extensions s list ≡ Fits → Element s list → AllElements s (extensions_of s)
+  in_fitting : fits extensions s list ≡ Ok tt → Element s list → AllElements s (extensions_of s)
   unfolding extensions
   in_fitting f k = members_of_lem 0x30 _ s list refl refl f k
 

@@ -21,14 +21,14 @@ use Rattle.lint.specs.declared.reasons.Inadmissible.{Inadmissible}
 use Rattle.lint.specs.declared.reasons.Inadmissible.TheVariants.{CertificateLength, IssuerLength}
 use Rattle.lint.specs.declared.reasons.Refusal.{Refusal}
 use Rattle.octets.proofs.Laws.Tests.{and_l, and_r}
-use Rattle.der.specs.Soundness.{der_soundness}
-use Rattle.der.specs.declared.walk.Soundness.{Soundness}
-use Rattle.der.specs.declared.walk.Soundness.TheVariants.{Sound, Unsound, Unordered}
+use Rattle.der.specs.Soundness.{der_soundness, Soundness}
 use Rattle.asn.specs.Answers.{certificate_verdict}
-use Rattle.asn.specs.declared.fitting.Verdict.{Verdict}
-use Rattle.asn.specs.declared.fitting.Verdict.TheVariants.{Stranger, Fits, Wrong}
 use Rattle.profiles.specs.Fields.{asked_of}
 use Rattle.profiles.specs.declared.fields.Profile.{Profile}
+use Rattle.der.specs.declared.walk.Fault.TheVariants.{Unsound, Unordered}
+use Rattle.asn.specs.Grammar.{Verdict}
+use Rattle.asn.specs.declared.fitting.Misfit.TheVariants.{Stranger, Wrong}
+
 
 -- a test that refuses if it fails
 passed : (b : Bool) (a : Result Profile Inadmissible) (r : Inadmissible) (p : Profile) → cond b a (Err r) ≡ Ok p
@@ -48,17 +48,17 @@ module _ (certificate issuer profile : ℕ) (p : Profile) (e : admission_of cert
   unfolding admission_of
   admitted_issuer = sized issuer (passed (side_length_ok issuer) _ _ p (passed (side_length_ok certificate) _ _ p e).1).0
 
-verdict_fits : (q p : Profile) (side : Side) (v : Verdict) → by_verdict q side v ≡ Ok p → v ≡ Fits
-verdict_fits q p side Fits e = refl
-verdict_fits q p side (Wrong place) e = cc
-verdict_fits q p side Stranger e = cc
+verdict_fits : (q p : Profile) (side : Side) (v : Verdict) → by_verdict q side v ≡ Ok p → v ≡ Ok tt
+verdict_fits q p side (Ok _) e = refl
+verdict_fits q p side (Err (Wrong place)) e = cc
+verdict_fits q p side (Err Stranger) e = cc
 
-sound_fits : (q p : Profile) (side : Side) (d : Soundness) (v : Verdict) → by_soundness q side d v ≡ Ok p → v ≡ Fits
-sound_fits q p side Sound v e = verdict_fits q p side v e
-sound_fits q p side (Unsound place) v e = cc
-sound_fits q p side (Unordered place) v e = cc
+sound_fits : (q p : Profile) (side : Side) (d : Soundness) (v : Verdict) → by_soundness q side d v ≡ Ok p → v ≡ Ok tt
+sound_fits q p side (Ok _) v e = verdict_fits q p side v e
+sound_fits q p side (Err (Unsound place)) v e = cc
+sound_fits q p side (Err (Unordered place)) v e = cc
 
-side_fits : (q p : Profile) (side : Side) (s : List ℕ) → side_judgement q side s ≡ Ok p → certificate_verdict s ≡ Fits
+side_fits : (q p : Profile) (side : Side) (s : List ℕ) → side_judgement q side s ≡ Ok p → certificate_verdict s ≡ Ok tt
 unfolding side_judgement
 side_fits q p side s e = sound_fits q p side (der_soundness s) (certificate_verdict s) e
 
@@ -68,7 +68,7 @@ first_accepts (Ok q) b p e = (q, refl)
 
 -- what is accepted was admitted, and then neither side was refused
 admitted : (a : Result Profile Inadmissible) (p : Profile) (s issuer : List ℕ) → once_admitted a s issuer ≡ Ok p
-    → (q : Profile) × (a ≡ Ok q) × (certificate_verdict s ≡ Fits)
+    → (q : Profile) × (a ≡ Ok q) × (certificate_verdict s ≡ Ok tt)
 unfolding both_sides
 admitted (Err r) p s issuer e = cc
 admitted (Ok q) p s issuer e =
@@ -76,7 +76,7 @@ admitted (Ok q) p s issuer e =
     (q, refl, side_fits q f.0 Certificate s f.1)
 
 module _ (s issuer : List ℕ) (profile : ℕ) (p : Profile) (e : judgement_of s issuer profile ≡ Ok p) where
-  pub accepted_fits : certificate_verdict s ≡ Fits
+  pub accepted_fits : certificate_verdict s ≡ Ok tt
   unfolding judgement_of
   accepted_fits = (admitted (admission_of (length s) (length issuer) profile) p s issuer e).2
 
@@ -94,14 +94,14 @@ OnlyFor q (Err r) = Unit {0}
 OnlyFor q (Ok p) = q ≡ p
 
 verdict_only : (q : Profile) (side : Side) (v : Verdict) → OnlyFor q (by_verdict q side v)
-verdict_only q side Fits = refl
-verdict_only q side (Wrong place) = tt
-verdict_only q side Stranger = tt
+verdict_only q side (Ok _) = refl
+verdict_only q side (Err (Wrong place)) = tt
+verdict_only q side (Err Stranger) = tt
 
 sound_only : (q : Profile) (side : Side) (d : Soundness) (v : Verdict) → OnlyFor q (by_soundness q side d v)
-sound_only q side Sound v = verdict_only q side v
-sound_only q side (Unsound place) v = tt
-sound_only q side (Unordered place) v = tt
+sound_only q side (Ok _) v = verdict_only q side v
+sound_only q side (Err (Unsound place)) v = tt
+sound_only q side (Err (Unordered place)) v = tt
 
 and_only : (q : Profile) (a b : Result Profile Refusal) → OnlyFor q b → OnlyFor q (result_and a b)
 and_only q (Err r) b k = tt

@@ -23,15 +23,11 @@ use Rattle.lint.specs.declared.reasons.Side.TheVariants.{Certificate, Issuer}
 use Rattle.lint.specs.declared.reasons.Inadmissible.{Inadmissible}
 use Rattle.lint.specs.declared.reasons.Inadmissible.TheVariants.{CertificateLength, IssuerLength, UnknownProfile}
 use Rattle.lint.specs.declared.reasons.Refusal.{Refusal}
-use Rattle.der.specs.Soundness.{der_soundness, soundness_place}
-use Rattle.der.specs.declared.walk.Soundness.{Soundness}
-use Rattle.der.specs.declared.walk.Soundness.TheVariants.{Sound, Unsound, Unordered}
+use Rattle.der.specs.Soundness.{der_soundness, soundness_place, Soundness}
 use Rattle.der.specs.Elements.{ElementStart}
 use Rattle.der.proofs.Laws.Places.{start_inside, fault_start}
 use Rattle.der.proofs.Laws.Walks.{sound_stretch}
 use Rattle.asn.specs.Answers.{certificate_verdict, verdict_place}
-use Rattle.asn.specs.declared.fitting.Verdict.{Verdict}
-use Rattle.asn.specs.declared.fitting.Verdict.TheVariants.{Stranger, Fits, Wrong}
 use Rattle.asn.proofs.Laws.Places.{departure_start}
 use Rattle.profiles.specs.declared.fields.Profile.{Profile}
 use Rattle.report.specs.Entries.{width}
@@ -40,6 +36,9 @@ use Rattle.report.specs.declared.sink.Entry.{Entry}
 use Rattle.rules.specs.Rules.{findings}
 use Rattle.lint.proofs.Laws.Accepted.{admitted_certificate, admitted_issuer}
 use Rattle.lint.specs.declared.reasons.Refusal.TheVariants as Refusals
+use Rattle.der.specs.declared.walk.Fault.TheVariants.{Unsound, Unordered}
+use Rattle.asn.specs.Grammar.{Verdict}
+use Rattle.asn.specs.declared.fitting.Misfit.TheVariants.{Stranger, Wrong}
 
 -- ---- refusals 1, 2 and 3
 
@@ -76,13 +75,13 @@ module _ (certificate issuer : List ℕ) where
         go (der_soundness octets) (certificate_verdict octets) (starting (fault_start octets))
         (λ e. starting (departure_start octets l (sound_stretch octets 0 (length octets) e).0)) refl
       where
-        go : (d : Soundness) (v : Verdict) → StartWithin octets (soundness_place d) → (der_soundness octets ≡ Sound → StartWithin octets (verdict_place v))
+        go : (d : Soundness) (v : Verdict) → StartWithin octets (soundness_place d) → (der_soundness octets ≡ Ok tt → StartWithin octets (verdict_place v))
             → der_soundness octets ≡ d → PlacedBy (by_soundness p side d v)
-        go Sound Fits f g e = tt
-        go Sound (Wrong place) f g e = record { within = g e; low = low (g e) }
-        go Sound Stranger f g e = record { within = g e; low = low (g e) }
-        go (Unsound place) v f g e = record { within = f; low = low f }
-        go (Unordered place) v f g e = record { within = f; low = low f }
+        go (Ok _) (Ok _) f g e = tt
+        go (Ok _) (Err (Wrong place)) f g e = record { within = g e; low = low (g e) }
+        go (Ok _) (Err Stranger) f g e = record { within = g e; low = low (g e) }
+        go (Err (Unsound place)) v f g e = record { within = f; low = low f }
+        go (Err (Unordered place)) v f g e = record { within = f; low = low f }
 
   first_placed : (a b : Result Profile Refusal) → PlacedBy a → PlacedBy b → PlacedBy (result_and a b)
   first_placed (Err r) b k l = k

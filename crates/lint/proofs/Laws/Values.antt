@@ -27,18 +27,17 @@ use Rattle.refusals.specs.Table.{not_sound_der, set_out_of_order, not_certificat
 use Rattle.refusals.specs.Table.{unknown_profile, on_neither, on_certificate, on_issuer, unrefused, RefusalRow, refusal_row, first_that_applies}
 use Rattle.refusals.specs.declared.table.Values.{Values}
 use Rattle.refusals.proofs.Laws.Table.{Tabled, tabled}
-use Rattle.der.specs.Soundness.{der_soundness}
-use Rattle.der.specs.declared.walk.Soundness.{Soundness}
+use Rattle.der.specs.Soundness.{der_soundness, Soundness}
 use Rattle.asn.specs.Answers.{certificate_verdict}
-use Rattle.asn.specs.declared.fitting.Verdict.{Verdict}
-use Rattle.asn.specs.declared.fitting.Verdict.TheVariants.{Stranger, Fits, Wrong}
 use Rattle.profiles.specs.Fields.{asked_of}
 use Rattle.profiles.specs.declared.fields.Profile.{Profile}
 use Rattle.report.specs.Answers.{enough_room}
 use Rattle.report.specs.declared.sink.Entry.{Entry}
 use Rattle.rules.specs.Rules.{findings}
-use Rattle.der.specs.declared.walk.Soundness.TheVariants as Soundnesses
+use Rattle.der.specs.declared.walk.Fault.TheVariants as Faults
 use Rattle.lint.specs.declared.reasons.Inadmissible as Reason
+use Rattle.asn.specs.Grammar.{Verdict}
+use Rattle.asn.specs.declared.fitting.Misfit.TheVariants.{Stranger, Wrong}
 
 -- ---- refusals 1, 2 and 3
 
@@ -79,11 +78,11 @@ side_values p side s below rest otherwise e = go (der_soundness s) (certificate_
   where
     go : (d : Soundness) (v : Verdict)
         → judgement_values (by_soundness p side d v) below ≡ first_that_applies (found_table (side_number side) d v ++ rest) otherwise
-    go (Soundnesses.Unsound place) v = refl
-    go (Soundnesses.Unordered place) v = refl
-    go Soundnesses.Sound Fits = e
-    go Soundnesses.Sound (Wrong place) = refl
-    go Soundnesses.Sound Stranger = refl
+    go (Err (Faults.Unsound place)) v = refl
+    go (Err (Faults.Unordered place)) v = refl
+    go (Ok _) (Ok _) = e
+    go (Ok _) (Err (Wrong place)) = refl
+    go (Ok _) (Err Stranger) = refl
 
 and_values : (a b : Result Profile Refusal) (below : Profile → Values)
     → judgement_values (result_and a b) below ≡ judgement_values a (λ p. judgement_values b below)

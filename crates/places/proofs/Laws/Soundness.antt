@@ -18,17 +18,17 @@ use Rattle.der.specs.Elements.{held_by, joined, elements_of}
 use Rattle.der.specs.Elements.HeldFrom.{outer, held}
 use Rattle.der.specs.Soundness.{soundness, der_soundness}
 use Rattle.der.specs.declared.header.Head.{Head}
-use Rattle.der.specs.declared.walk.Soundness.TheVariants.{Sound}
 use Rattle.der.proofs.Laws.Walks.{soundness_join, then_parts, sound_stretch, sound_self, sound_members}
 use Rattle.der.specs.Members.{members_in}
 use Rattle.report.specs.Order.{In}
+use Rattle.std.specs.Prelude.{Ok}
 
 -- an element that is sound with all that it holds, in so many levels
 record Whole (s : List ℕ) (h : Head) : Type 0 where
   levels : ℕ
-  is : soundness s (elements_of s levels h) ≡ Sound
+  is : soundness s (elements_of s levels h) ≡ Ok tt
 
-each_whole : (s : List ℕ) (levels : ℕ) (hs : List Head) → soundness s (joined (elements_of s levels) hs) ≡ Sound
+each_whole : (s : List ℕ) (levels : ℕ) (hs : List Head) → soundness s (joined (elements_of s levels) hs) ≡ Ok tt
     → (h : Head) → In h hs → Whole s h
 each_whole s levels [] e h i = absurd (Memᴰ.not-nil i)
 each_whole s levels (x ∷ hs) e h i =
@@ -42,7 +42,7 @@ held_whole s holder w h = go (constructed holder.tag) refl
     go true c i = each_whole s (w.levels - 1) (members_in s holder) (sound_members s w.levels holder w.is c) h i
     go false c i = absurd (Memᴰ.not-nil i)
 
-module _ (s : List ℕ) (e : der_soundness s ≡ Sound) where
+module _ (s : List ℕ) (e : der_soundness s ≡ Ok tt) where
   whole : {h : Head} → Element s h → Whole s h
   whole (outer outermost) = record { levels = 16; is = (sound_stretch s 0 (length s) e).1 }
   whole (held {holder} {h} k i) = held_whole s holder (whole k) h i

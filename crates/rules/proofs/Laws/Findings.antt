@@ -17,7 +17,6 @@ use lib.ListN.{length}
 use Rattle.rules.specs.Rules.{all_rules, rules_for, findings_for, findings}
 use Rattle.der.specs.declared.header.Head.{Head}
 use Rattle.asn.specs.Answers.{certificate_verdict}
-use Rattle.asn.specs.declared.fitting.Verdict.TheVariants.{Fits}
 use Rattle.profiles.specs.Judged.{rule_limit, judged_by}
 use Rattle.profiles.specs.declared.fields.Profile.{Profile}
 use Rattle.certificate.specs.Issuer.{Known, known_of}
@@ -63,6 +62,7 @@ use Rattle.rules_values.specs.Points.{point_rows}
 use Rattle.rules_values.specs.Authority.{authority_rows}
 use Rattle.rules_values.specs.Rules.{value_rows}
 use Rattle.rules_values.proofs.Laws.Rows.{values_ok}
+use Rattle.std.specs.Prelude.{Ok}
 
 rules_ascend : (p : Profile) (f : Case) → ascend 101 rule_limit (all_rules p f) ≡ true
 unfolding
@@ -72,20 +72,20 @@ unfolding
 rules_ascend p f = refl
 
 module _ (p : Profile) (s : List ℕ) (k : Known) where
-  rules_ok : certificate_verdict s ≡ Fits → RowsOk (Element s) (rules_for p s k)
+  rules_ok : certificate_verdict s ≡ Ok tt → RowsOk (Element s) (rules_for p s k)
   unfolding all_rules
   rules_ok e =
       ok_join (fields_ok s e p k) (ok_join (subject_ok s e p k) (ok_join (key_ok s e p k) (ok_join (extensions_ok s e p k) (values_ok s e k p))))
 
-  known_ordered : certificate_verdict s ≡ Fits → Ordered 101 rule_limit (findings_for p s k)
+  known_ordered : certificate_verdict s ≡ Ok tt → Ordered 101 rule_limit (findings_for p s k)
   unfolding findings_for
   known_ordered e = rows_ordered p 101 rule_limit (rules_ascend p (case_in s k)) (rules_ok e)
 
-  known_elements : certificate_verdict s ≡ Fits → (e : Entry) → In e (findings_for p s k) → (h : Head) × Element s h × (e.place ≡ (entry_at 0 h).place)
+  known_elements : certificate_verdict s ≡ Ok tt → (e : Entry) → In e (findings_for p s k) → (h : Head) × Element s h × (e.place ≡ (entry_at 0 h).place)
   unfolding findings_for
   known_elements v = rows_at p (rules_ok v)
 
-  known_inside : certificate_verdict s ≡ Fits → EntriesInside (findings_for p s k) (length s)
+  known_inside : certificate_verdict s ≡ Ok tt → EntriesInside (findings_for p s k) (length s)
   unfolding findings_for
   known_inside e = rows_inside p (length s) (λ h m. let i = element_inside s m in (between_spans i, i.ends)) (rules_ok e)
 
@@ -98,15 +98,15 @@ module _ (p : Profile) (s : List ℕ) (k : Known) where
   none_broken = none_broken_of p (rules_for p s k)
 
 module _ (p : Profile) (s issuer : List ℕ) where
-  pub findings_ordered : certificate_verdict s ≡ Fits → Ordered 101 rule_limit (findings p s issuer)
+  pub findings_ordered : certificate_verdict s ≡ Ok tt → Ordered 101 rule_limit (findings p s issuer)
   unfolding findings
   findings_ordered e = known_ordered p s (known_of issuer) e
 
-  pub findings_elements : certificate_verdict s ≡ Fits → (e : Entry) → In e (findings p s issuer) → (h : Head) × Element s h × (e.place ≡ (entry_at 0 h).place)
+  pub findings_elements : certificate_verdict s ≡ Ok tt → (e : Entry) → In e (findings p s issuer) → (h : Head) × Element s h × (e.place ≡ (entry_at 0 h).place)
   unfolding findings
   findings_elements e = known_elements p s (known_of issuer) e
 
-  pub findings_inside : certificate_verdict s ≡ Fits → EntriesInside (findings p s issuer) (length s)
+  pub findings_inside : certificate_verdict s ≡ Ok tt → EntriesInside (findings p s issuer) (length s)
   unfolding findings
   findings_inside e = known_inside p s (known_of issuer) e
 

@@ -13,7 +13,6 @@ use Rattle.rules_extensions.specs.declared.slots.Question.TheVariants.{Missing, 
 use Rattle.der.specs.Members.{members_in}
 use Rattle.der.specs.declared.header.Head.{Head}
 use Rattle.asn.specs.Answers.{certificate_verdict}
-use Rattle.asn.specs.declared.fitting.Verdict.TheVariants.{Fits}
 use Rattle.profiles.specs.declared.fields.Profile.{Profile}
 use Rattle.certificate.specs.Fields.{certificate_of}
 use Rattle.certificate.specs.Issuer.{Known}
@@ -28,8 +27,9 @@ use Rattle.report.proofs.Terms.Rows.RowsOk.{no_rows, more_rows}
 use Rattle.report.proofs.Laws.Order.{children_apart}
 use Rattle.report.proofs.Laws.Rows.{none_ok, at_ok, each_ok, ok_join}
 use Rattle.rules_extensions.proofs.Laws.Slots.{rows_from, slots_ok}
+use Rattle.std.specs.Prelude.{Ok}
 
-module _ (s : List ℕ) (e : certificate_verdict s ≡ Fits) (p : Profile) (known : Known) where
+module _ (s : List ℕ) (e : certificate_verdict s ≡ Ok tt) (p : Profile) (known : Known) where
   -- ---- slots
 
   sole_ok : {ps : List ℕ} (rule : ℕ) (h : Head) → Element s h → RowOk (Element s) (rule for ps ⦂ (h ∷ []))

@@ -12,7 +12,6 @@ use Rattle.rules_fields.specs.Period.{validity_rows}
 use Rattle.rules_fields.specs.Rules.{field_rows}
 use Rattle.der.specs.declared.header.Head.{Head}
 use Rattle.asn.specs.Answers.{certificate_verdict}
-use Rattle.asn.specs.declared.fitting.Verdict.TheVariants.{Fits}
 use Rattle.profiles.specs.declared.fields.Profile.{Profile}
 use Rattle.certificate.specs.Fields.{certificate_of}
 use Rattle.certificate.proofs.Laws.Named.{times_rise}
@@ -24,8 +23,9 @@ use Rattle.report.specs.Rows.{◌for◌⦂◌, broken_at}
 use Rattle.report.proofs.Terms.Rows.{RowOk, RowsOk}
 use Rattle.report.proofs.Terms.Rows.RowsOk.{no_rows, more_rows}
 use Rattle.report.proofs.Laws.Rows.{at_ok, twice_ok}
+use Rattle.std.specs.Prelude.{Ok}
 
-module _ (s : List ℕ) (e : certificate_verdict s ≡ Fits) where
+module _ (s : List ℕ) (e : certificate_verdict s ≡ Ok tt) where
   at : {ps : List ℕ} (rule : ℕ) (bad : Bool) {h : Head} → Element s h → RowOk (Element s) (rule for ps ⦂ broken_at bad h)
   at rule bad {h} k = at_ok rule bad h (λ t. k)
 

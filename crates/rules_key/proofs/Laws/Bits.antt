@@ -18,11 +18,11 @@ use Rattle.rules_key.specs.declared.bits.RsaKey.{RsaKey}
 use Rattle.octets.specs.Octets.{octet_at}
 use Rattle.octets.proofs.Laws.Tests.{and_l, and_r}
 use Rattle.der.specs.Header.{head_of, children_of}
-use Rattle.der.specs.Soundness.{stretch_soundness, is_sound}
+use Rattle.der.specs.Soundness.{stretch_soundness, Soundness}
 use Rattle.der.specs.declared.header.Head.{Head}
 use Rattle.der.proofs.Laws.Header.{head_forward}
 use Rattle.der.proofs.Laws.Children.{children_done, children_next}
-use Rattle.der.specs.declared.walk.Soundness.{Soundness}
+use Rattle.std.specs.Prelude.{is_ok}
 
 -- m and e are the first two elements, and a and b say whether they are positive INTEGERs
 pub two_are :
@@ -49,7 +49,7 @@ two_are s body end m e a b p q u v = first (ltb body end) refl
 -- what is read of the BIT STRING: where its bits start, the octet before them, what the walk found, and the elements
 pub rsa_is :
     (s : List ℕ) (h : Head) (from unused : ℕ) (found : Soundness) (sound : Bool) (whole m e : Head) (a b : Bool)
-    → from ≡ bits_from h → unused ≡ octet_at s h.body → found ≡ stretch_soundness s from h.end → sound ≡ is_sound found
+    → from ≡ bits_from h → unused ≡ octet_at s h.body → found ≡ stretch_soundness s from h.end → sound ≡ is_ok found
     → whole ≡ head_of s from h.end → m ≡ head_of s whole.body whole.end → e ≡ head_of s m.end whole.end
     → a ≡ is_positive_integer s m → b ≡ is_positive_integer s e
     → ◌≡◌ {A = Option RsaKey}
@@ -72,7 +72,7 @@ rsa_members s h t =
     let end = (sequence_in s h).end in
     let m = modulus_of s h in
     let e = exponent_of s h in
-    let sound = is_sound (stretch_soundness s (bits_from h) h.end) in
+    let sound = is_ok (stretch_soundness s (bits_from h) h.end) in
     let sequence = eqb (sequence_in s h).tag 48 in
     let two = two_positive s (children_of s body end) in
     let positive = is_positive_integer s m && is_positive_integer s e in

@@ -18,13 +18,10 @@ use Rattle.octets.proofs.Laws.Tests.{and_l, and_r}
 use Rattle.der.specs.Header.{head_of, children_of}
 use Rattle.der.specs.Contents.{constructed}
 use Rattle.der.specs.Elements.HeldFrom.{outer}
-use Rattle.der.specs.Soundness.{stretch_soundness, is_sound}
+use Rattle.der.specs.Soundness.{stretch_soundness}
 use Rattle.der.specs.declared.header.Head.{Head}
-use Rattle.der.specs.declared.walk.Soundness.{Soundness}
-use Rattle.der.specs.declared.walk.Soundness.TheVariants.{Sound, Unsound, Unordered}
 use Rattle.der.proofs.Laws.Header.{head_narrow}
 use Rattle.asn.specs.Answers.{certificate_verdict}
-use Rattle.asn.specs.declared.fitting.Verdict.TheVariants.{Fits}
 use Rattle.numbers.specs.Numbers.{modulus_ok, long_modulus, exponent_ok}
 use Rattle.primes.specs.Primes.{primes_below, free_of}
 use Rattle.profiles.specs.declared.fields.Profile.{Profile}
@@ -40,11 +37,8 @@ use Rattle.report.proofs.Terms.Rows.{RowOk, RowsOk}
 use Rattle.report.proofs.Terms.Rows.RowsOk.{no_rows, more_rows}
 use Rattle.report.proofs.Laws.Rows.{at_ok}
 use Rattle.rules_key.proofs.Laws.Bits.{rsa_members}
-
-is_sound_lem : (v : Soundness) → is_sound v ≡ true → v ≡ Sound
-is_sound_lem Sound e = refl
-is_sound_lem (Unsound p) e = cc
-is_sound_lem (Unordered p) e = cc
+use Rattle.std.specs.Prelude.{is_ok, Ok}
+use Rattle.der.proofs.Laws.Walks.{ok_alone}
 
 -- ---- what rule 204 says of the bits
 
@@ -69,20 +63,20 @@ bits_said : (s : List ℕ) (h : Head) → rsa_bits s h ≡ true → Bits s h
 unfolding rsa_bits
 bits_said s h t =
     let two = two_positive s (children_of s (sequence_in s h).body (sequence_in s h).end) in
-    let sound = is_sound (stretch_soundness s (bits_from h) h.end) in
+    let sound = is_ok (stretch_soundness s (bits_from h) h.end) in
     let a = and_r (eqb (octet_at s h.body) 0) (sound && (eqb (sequence_in s h).tag 48 && two)) t in
     let tag = eqb-true (sequence_in s h).tag 48 (and_l (eqb (sequence_in s h).tag 48) two (and_r sound (eqb (sequence_in s h).tag 48 && two) a)) in
     let from = from_behind s h tag in
     record {
       unused = eqb-true (octet_at s h.body) 0 (and_l (eqb (octet_at s h.body) 0) (sound && (eqb (sequence_in s h).tag 48 && two)) t);
       from = from;
-      sound = ap (λ (n : ℕ). stretch_soundness s n h.end) (sym from) ∙ is_sound_lem _ (and_l sound (eqb (sequence_in s h).tag 48 && two) a);
+      sound = ap (λ (n : ℕ). stretch_soundness s n h.end) (sym from) ∙ ok_alone _ (and_l sound (eqb (sequence_in s h).tag 48 && two) a);
       tag = ap (λ (n : ℕ). (head_of s n h.end).tag) (sym from) ∙ tag;
     }
 
 -- ---- of a certificate that fits
 
-module _ (s : List ℕ) (e : certificate_verdict s ≡ Fits) where
+module _ (s : List ℕ) (e : certificate_verdict s ≡ Ok tt) where
   abbrev bits : Head
   bits = (subject_key s).bits
 

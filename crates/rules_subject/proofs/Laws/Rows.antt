@@ -19,7 +19,6 @@ use Rattle.der.proofs.Laws.Searching.{first_among}
 use Rattle.asn.specs.Grammar.{fits}
 use Rattle.asn.specs.Answers.{certificate_verdict}
 use Rattle.asn.specs.Module.{name, relative_distinguished_name}
-use Rattle.asn.specs.declared.fitting.Verdict.TheVariants.{Fits}
 use Rattle.asn.proofs.Laws.Fields.{parts_fit}
 use Rattle.profiles.specs.Fields.{common_name}
 use Rattle.profiles.specs.declared.fields.Profile.{Profile}
@@ -44,21 +43,22 @@ use Rattle.report.proofs.Terms.Rows.{RowOk, RowsOk}
 use Rattle.report.proofs.Terms.Rows.RowsOk.{no_rows, more_rows}
 use Rattle.report.proofs.Laws.Order.{children_apart}
 use Rattle.report.proofs.Laws.Rows.{none_ok, at_ok, each_ok, one_ok}
+use Rattle.std.specs.Prelude.{Ok}
 
-module _ (s : List ℕ) (e : certificate_verdict s ≡ Fits) where
+module _ (s : List ℕ) (e : certificate_verdict s ≡ Ok tt) where
   abbrev subject : Head
   subject = (certificate_of s).subject
 
   -- ---- sets, and attributes in them
 
-  subject_fits : fits name s subject ≡ Fits
+  subject_fits : fits name s subject ≡ Ok tt
   subject_fits = rw (named s e).subject (named s e).fields.subject_fits
 
   in_name : AllMembers s subject
   unfolding name
   in_name = members_of_lem 0x30 _ s _ refl refl subject_fits (field_elements s e).subject
 
-  set_fits : (h : Head) → In h (members_in s subject) → fits relative_distinguished_name s h ≡ Fits
+  set_fits : (h : Head) → In h (members_in s subject) → fits relative_distinguished_name s h ≡ Ok tt
   unfolding name
   set_fits = many_fit relative_distinguished_name s subject.at (members_in s subject) (parts_fit 0x30 _ s subject subject_fits).1
 

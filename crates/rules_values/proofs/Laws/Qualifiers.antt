@@ -19,7 +19,6 @@ use Rattle.asn.specs.Grammar.{fits}
 use Rattle.asn.specs.Module.{sequence_of, policy_information, policy_qualifier_info}
 use Rattle.asn.proofs.Terms.Fields.{Optional}
 use Rattle.asn.proofs.Terms.Fields.Optional.{absent, present}
-use Rattle.asn.specs.declared.fitting.Verdict.TheVariants.{Fits}
 use Rattle.asn.proofs.Laws.Fields.{parts_fit, one_fits, opt_fits, done_fits}
 use Rattle.policies.specs.Policies.{qualifiers_of}
 use Rattle.certificate.proofs.Laws.Inside.{between_head, between_after}
@@ -29,10 +28,11 @@ use Rattle.forms.specs.Lists.{holder_in, items_within}
 use Rattle.forms.specs.declared.nests.Nest.TheVariants.{Policy}
 use Rattle.forms.proofs.Laws.Lists.{parts_apart}
 use Rattle.report.proofs.Terms.Items.{Apart}
+use Rattle.std.specs.Prelude.{Ok}
 
 -- ---- in a policy
 
-module _ (s : List ℕ) (policy : Head) (e : fits policy_information s policy ≡ Fits) (k : Element s policy) where
+module _ (s : List ℕ) (policy : Head) (e : fits policy_information s policy ≡ Ok tt) (k : Element s policy) where
   in_policy : AllMembers s policy
   unfolding policy_information
   in_policy = members_of_lem 0x30 _ s policy refl refl e k

@@ -22,7 +22,6 @@ use Rattle.asn.specs.Grammar.{Form, fits}
 use Rattle.asn.specs.Answers.{certificate_verdict}
 use Rattle.asn.specs.Module.{object_identifier, sequence_of, value_of, judged, policy_information, general_name, access_description, distribution_point}
 use Rattle.asn.specs.Module.{ext_key_usage, certificate_policies, general_names, authority_info_access, crl_distribution_points}
-use Rattle.asn.specs.declared.fitting.Verdict.TheVariants.{Fits}
 use Rattle.profiles.specs.declared.fields.Profile.{Profile}
 use Rattle.certificate.specs.Slots.{slot_count}
 use Rattle.certificate.specs.declared.key.KeyKind.{KeyKind}
@@ -45,6 +44,7 @@ use Rattle.report.proofs.Laws.Order.{children_apart}
 use Rattle.report.proofs.Laws.Rows.{none_ok, at_ok, each_ok, ok_join}
 use Rattle.rules_values.proofs.Laws.Qualifiers.{qualifiers_of_lem, qualifiers_apart}
 use Rattle.rules_values.proofs.Laws.FullNames.{full_names_of, full_names_apart}
+use Rattle.std.specs.Prelude.{Ok}
 
 -- where the value is not good, nothing breaks the rule
 good_ok : (s : List ℕ) (k : ℕ) {ps : List ℕ} (rule : ℕ) (x : Standing) (f : Extension → Head → List Head) → StandingOk s k x
@@ -53,7 +53,7 @@ good_ok s k rule Standing.missing f o g = none_ok rule
 good_ok s k rule (Standing.bad x) f o g = none_ok rule
 good_ok s k rule (Standing.good x v) f o g = g x v o
 
-module _ (s : List ℕ) (e : certificate_verdict s ≡ Fits) (known : Known) where
+module _ (s : List ℕ) (e : certificate_verdict s ≡ Ok tt) (known : Known) where
   abbrev standing : ℕ → Standing
   standing k = standing_of (case_in s known) k
 
@@ -68,8 +68,8 @@ module _ (s : List ℕ) (e : certificate_verdict s ≡ Fits) (known : Known) whe
 
     -- "each" over the members of a SEQUENCE OF
     module _ (f : Form) (type : value_of k ≡ sequence_of f) where
-      whole : (x : Extension) (v : Head) → GoodOk s k x v → fits (sequence_of f) s v ≡ Fits
-      whole x v g = subst (λ (y : Form). fits y s v ≡ Fits) type g.fit
+      whole : (x : Extension) (v : Head) → GoodOk s k x v → fits (sequence_of f) s v ≡ Ok tt
+      whole x v g = subst (λ (y : Form). fits y s v ≡ Ok tt) type g.fit
 
       items : (x : Extension) (v : Head) → GoodOk s k x v → AllMembers s v
       items x v g = members_of_lem 0x30 _ s v refl refl (whole x v g) g.element

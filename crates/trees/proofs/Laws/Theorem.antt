@@ -15,15 +15,15 @@ use Rattle.octets.specs.Octets.{Octets, octets_from}
 use Rattle.octets.proofs.Laws.Octets.{octets_long}
 use Rattle.der.specs.Header.{head_of}
 use Rattle.der.specs.Elements.{elements_of}
-use Rattle.der.specs.Soundness.{faulty, unordered, stretch_soundness, der_soundness, soundness_number}
-use Rattle.der.specs.declared.walk.Soundness.{Soundness}
-use Rattle.der.specs.declared.walk.Soundness.TheVariants.{Sound, Unsound, Unordered}
+use Rattle.der.specs.Soundness.{faulty, unordered, stretch_soundness, der_soundness, soundness_number, Soundness}
 use Rattle.trees.proofs.Laws.Element.{whole}
 use Rattle.trees.proofs.Laws.Walks.{None, form_none, sound_none, stretch_whole}
 use Rattle.trees.proofs.Laws.Encoding.{encode_some, encode_longer, encode_octets, encode_alone}
 use Rattle.trees.proofs.Laws.Reading.{Here, reads_one}
 use Rattle.trees.proofs.Laws.Writing.{Wrote, writes_one}
 use Rattle.trees.proofs.Laws.Outline.{rises_tree}
+use Rattle.der.specs.declared.walk.Fault.TheVariants.{Unsound, Unordered}
+use Rattle.std.specs.Prelude.{Ok, Err}
 
 -- ---- a stretch
 
@@ -34,11 +34,11 @@ module _ (s : List ℕ) (at end : ℕ) where
       let b = form_none s (elements_of s 16 (head_of s at end)) in
       ((λ f. let g = a.0 f in (g.0, b.0 g.1)), λ f. a.1 (f.0, b.1 f.1))
 
-  stretch_both : (stretch_soundness s at end ≡ Sound)
+  stretch_both : (stretch_soundness s at end ≡ Ok tt)
       ↔ (((head_of s at end).end ≡ end)
       × None (faulty s) (elements_of s 16 (head_of s at end)) × None (unordered s) (elements_of s 16 (head_of s at end)))
   stretch_both =
-      let a = stretch_whole (λ v. v ≡ Sound) s at end (λ f. let n : ◌≡◌ {A = ℕ} 0 1 = cc in omega arith) in
+      let a = stretch_whole (λ v. v ≡ Ok tt) s at end (λ f. let n : ◌≡◌ {A = ℕ} 0 1 = cc in omega arith) in
       let b = sound_none s (elements_of s 16 (head_of s at end)) in
       ((λ f. let g = a.0 f in let k = b.0 g.1 in (g.0, k.0, k.1)), λ f. a.1 (f.0, b.1 (f.1, f.2)))
 
@@ -63,7 +63,7 @@ module _ (s : List ℕ) (at end : ℕ) where
     faultless_of : Faultless (stretch_soundness s at end) ↔ ((t : Tree) × Encodes t (octets_from s at (end - at)))
     faultless_of = ((λ f. (tree_of s 16 (head_of s at end), written f)), λ p. stretch_form.1 (read_end w p.0 p.1, (read_stretch w p.0 p.1).sound))
 
-    sound_of : (stretch_soundness s at end ≡ Sound) ↔ ((t : Tree) × Encodes t (octets_from s at (end - at)) × SetsOrdered t)
+    sound_of : (stretch_soundness s at end ≡ Ok tt) ↔ ((t : Tree) × Encodes t (octets_from s at (end - at)) × SetsOrdered t)
     sound_of = (
       (λ f.
           let g = stretch_both.0 f in
@@ -76,7 +76,7 @@ module _ (s : List ℕ) (at end : ℕ) where
 
 -- ---- all the octets
 
-sound_all : (s : List ℕ) → Octets s → (der_soundness s ≡ Sound) ↔ ((t : Tree) × Encodes t s × SetsOrdered t)
+sound_all : (s : List ℕ) → Octets s → (der_soundness s ≡ Ok tt) ↔ ((t : Tree) × Encodes t s × SetsOrdered t)
 sound_all s o =
     let p = sound_of s 0 (length s) o (le_refl (length s)) in (
       (λ f. let q = p.0 f in (q.0, subst (Encodes q.0) (whole s) q.1, q.2)),
@@ -110,11 +110,11 @@ unordered_all s o = (
 )
   where
     go : ((t : Tree) × Encodes t s × (SetsOrdered t → ⊥)) → (v : Soundness) → der_soundness s ≡ v → soundness_number (der_soundness s) ≡ 5
-    go p Sound e =
+    go p (Ok _) e =
         let q = (sound_all s o).0 e in
         absurd (p.2 (subst SetsOrdered (sym (read_as s q.0 q.1) ∙ read_as s p.0 p.1) q.2))
-    go p (Unsound k) e = absurd ((faultless_all s o).1 (p.0, p.1) (ap soundness_number e))
-    go p (Unordered k) e = ap soundness_number e
+    go p (Err (Unsound k)) e = absurd ((faultless_all s o).1 (p.0, p.1) (ap soundness_number e))
+    go p (Err (Unordered k)) e = ap soundness_number e
 
 -- ---- the statements
 

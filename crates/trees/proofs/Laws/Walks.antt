@@ -22,11 +22,11 @@ use Rattle.der.specs.Contents.{constructed as is_constructed, contents_of, eleme
 use Rattle.der.specs.Order.{ascend_from, ascending, octets_of}
 use Rattle.der.specs.Elements.{Node, elements_of}
 use Rattle.der.specs.Workings.Walk.{members_of}
-use Rattle.der.specs.Soundness.{faulty, unordered, FirstPlace, first, judge, soundness, stretch_soundness, soundness_number}
+use Rattle.der.specs.Soundness.{faulty, unordered, FirstPlace, first, judge, soundness, stretch_soundness, soundness_number, Soundness}
 use Rattle.der.specs.Soundness.FirstPlace.{nothing, found}
 use Rattle.der.specs.declared.header.Head.{Head}
-use Rattle.der.specs.declared.walk.Soundness.{Soundness}
-use Rattle.der.specs.declared.walk.Soundness.TheVariants.{Sound, Unsound}
+use Rattle.der.specs.declared.walk.Fault.TheVariants.{Unsound}
+use Rattle.std.specs.Prelude.{Ok, Err}
 
 abbrev pub None : (Node → Bool) → List Node → Type 0
 None p ns = first p ns ≡ nothing
@@ -63,23 +63,23 @@ form_none s ns = go (first (faulty s) ns) (first (unordered s) ns)
     go nothing (found q) = ((λ e. refl), λ e f. omega arith)
     go (found p) b = ((λ e. absurd (e refl)), λ e f. let n : ◌≡◌ {A = ℕ} 0 1 = cc in omega arith)
 
-pub sound_none : (s : List ℕ) (ns : List Node) → (soundness s ns ≡ Sound) ↔ (None (faulty s) ns × None (unordered s) ns)
+pub sound_none : (s : List ℕ) (ns : List Node) → (soundness s ns ≡ Ok tt) ↔ (None (faulty s) ns × None (unordered s) ns)
 unfolding soundness
 sound_none s ns = go (first (faulty s) ns) (first (unordered s) ns)
   where
-    go : (a b : FirstPlace) → (judge a b ≡ Sound) ↔ ((a ≡ nothing) × (b ≡ nothing))
+    go : (a b : FirstPlace) → (judge a b ≡ Ok tt) ↔ ((a ≡ nothing) × (b ≡ nothing))
     go nothing nothing = ((λ e. (refl, refl)), λ e. refl)
     go nothing (found q) = ((λ e. (refl, cc)), λ e. cc)
     go (found p) b = ((λ e. (cc, cc)), λ e. cc)
 
 -- the outermost element, for any verdict that a part torn before its end does not get
-pub stretch_whole : (Q : Soundness → Type 0) (s : List ℕ) (at end : ℕ) → (Q (Unsound at) → ⊥)
+pub stretch_whole : (Q : Soundness → Type 0) (s : List ℕ) (at end : ℕ) → (Q (Err (Unsound at)) → ⊥)
     → Q (stretch_soundness s at end) ↔ (((head_of s at end).end ≡ end) × Q (soundness s (elements_of s 16 (head_of s at end))))
 unfolding stretch_soundness
 stretch_whole Q s at end n = go (eqb (head_of s at end).end end) refl
   where
     go : (b : Bool) → eqb (head_of s at end).end end ≡ b
-        → Q (cond b (soundness s (elements_of s 16 (head_of s at end))) (Unsound at))
+        → Q (cond b (soundness s (elements_of s 16 (head_of s at end))) (Err (Unsound at)))
         ↔ (((head_of s at end).end ≡ end) × Q (soundness s (elements_of s 16 (head_of s at end))))
     go true e = ((λ q. (eqb-true (head_of s at end).end end e, q)), λ q. q.1)
     go false e = ((λ q. absurd (n q)), λ q. absurd (eqb-false (head_of s at end).end end e q.0))

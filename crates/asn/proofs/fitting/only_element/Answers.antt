@@ -17,5 +17,5 @@ unfolding roots
 returns c =
     let a = c.args in
     let root : slots_at c.row_at-root.result ≡ alone (value_of a.slot) =
-    root_row roots roots_right none_right a.slot c.row_at-root.result c.row_at-root.ensures.0 in
+    root_row roots roots_right none_right a.slot c.row_at-root.result c.row_at-root.ensures in
     c.walk.ensures ∙ ap (λ (p : Slots). follows p a.s.now a.at (children_of a.s.now a.at a.end)) root

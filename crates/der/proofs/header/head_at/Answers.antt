@@ -1,31 +1,12 @@
 -- `der::head_at` meets its contract. Assumes nothing.
 use mathlib.Core.Path.{refl, sym, ap, ◌∙◌}
 use mathlib.Core.Bool.{true}
-use Prim.Native.Nat.{◌+◌, ◌≤◌}
-use native.Mathlib.Omega.{arith}
-use borrow.Author.Tests.{leb-true, leb-false}
+use Prim.Native.Nat.{◌+◌}
+use borrow.Author.Tests.{leb-false}
 use Rattle.der.specs.Header.{head_if}
 use Rattle.octets.specs.Octets.{octet_at}
 use Rattle.der.proofs.Laws.Header.{head_short, head_narrow, head_outside}
 use Rattle.der.proofs.header.head_at.Goals as goal
-
-pub bounds-s-at : goal.bounds-s-at
-bounds-s-at c =
-    let inside : c.args.at + 2 ≤ c.args.end = let a = c.args in
-    leb-true (a.at + 2) a.end (sym c.within.ensures ∙ c.if-within.true) in
-    omega (arith, inside)
-
-pub overflow_add-first : goal.overflow_add-first
-overflow_add-first c =
-    let inside : c.args.at + 2 ≤ c.args.end = let a = c.args in
-    leb-true (a.at + 2) a.end (sym c.within.ensures ∙ c.if-within.true) in
-    omega (arith, inside)
-
-pub bounds-s-at-then-within : goal.bounds-s-at-then-within
-bounds-s-at-then-within c =
-    let inside : c.args.at + 2 ≤ c.args.end = let a = c.args in
-    leb-true (a.at + 2) a.end (sym c.within.ensures ∙ c.if-within.true) in
-    omega (arith, inside)
 
 pub returns-then-first-lt128 : goal.returns-then-first-lt128
 returns-then-first-lt128 c =

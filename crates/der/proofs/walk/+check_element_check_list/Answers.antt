@@ -3,11 +3,11 @@ use Prim.Native.Nat.{◌-◌}
 use native.Mathlib.Omega.{arith}
 use Rattle.octets.specs.Octets.{octets_from}
 use Rattle.der.specs.Workings.Walk.{and_then}
-use Rattle.der.specs.declared.walk.Soundness.{Soundness}
+use Rattle.der.specs.Soundness.{Soundness}
 use Rattle.der.proofs.Laws.Header.{head_forward}
 use Rattle.der.proofs.Laws.Walks.{element_deep, element_bad, element_plain, element_list, list_begins, list_next, list_done, then_if}
 use Rattle.der.proofs.walk.+check_element_check_list.Goals as goal
-use Rattle.der.proofs.walk.+check_element_check_list.Goals.{check_list-then-not-is_sound, check_list-else-not-is_sound}
+use Rattle.der.proofs.walk.+check_element_check_list.Goals.{check_list-then-is_err, check_list-else-is_err}
 
 pub check_element-returns-then-depth-eq0 : goal.check_element-returns-then-depth-eq0
 check_element-returns-then-depth-eq0 t c =
@@ -44,15 +44,15 @@ check_list-loop-i-smaller t c =
 pub check_list-loop-i-preserved : goal.check_list-loop-i-preserved
 check_list-loop-i-preserved t c =
     let a = c.args in
-    let next : c.if-not-is_sound.found ≡ and_then c.loop-i.found c.check_element-held.result
-    = elim c.if-not-is_sound.branch [
-      | check_list-then-not-is_sound w ↦ w.found-is ∙ w.and_then-found.ensures
-      | check_list-else-not-is_sound w ↦ then_if c.loop-i.found c.check_element-held.result c.if-not-is_sound.found
-          c.is_sound.result c.is_sound.ensures w.if-not-is_sound.false w.found-is
+    let next : c.if-is_err.found ≡ and_then c.loop-i.found c.check_element-held.result
+    = elim c.if-is_err.branch [
+      | check_list-then-is_err w ↦ w.found-is ∙ w.and_then-found.ensures
+      | check_list-else-is_err w ↦ then_if c.loop-i.found c.check_element-held.result c.if-is_err.found
+          c.is_err.result c.is_err.ensures.value w.if-is_err.false w.found-is
     ] in
     c.loop-i.invariant ∙ list_next a.s.now a.depth a.at a.set a.body a.end c.loop-i.ascends c.loop-i.found
     (octets_from a.s.now c.loop-i.from (c.loop-i.i - c.loop-i.from)) c.loop-i.i c.head_at-member.result c.check_element-held.result
-    c.if-not-is_sound.found c.may_follow-ascends.result c.loop-i-test.true c.head_at-member.ensures c.check_element-held.ensures next
+    c.if-is_err.found c.may_follow-ascends.result c.loop-i-test.true c.head_at-member.ensures c.check_element-held.ensures next
     c.may_follow-ascends.ensures
 
 pub check_list-returns : goal.check_list-returns
