@@ -27,8 +27,6 @@ const SPACE: usize = 65537;
 // certificate's length.
 const SIDE: usize = 16384;
 
-}
-
 fn write(output: &impl Print, errors: &impl Print, side: &[u8]) -> bool {
     streams::write_out(output, errors, side, b"standard output")
 }
@@ -97,7 +95,11 @@ fn main(rt: HostRuntime) {
     if streams::arg_count(&rt, 4) != 3 {
         return words::say_how_to_call(&errors);
     }
-    let Some(number) = streams::number_argument(&rt, 1, &mut octets::zeros::<{ streams::NAME_SPACE }>()) else {
+    let Some(number) = streams::number_argument(
+        &rt,
+        1,
+        &mut octets::zeros::<{ streams::NAME_SPACE }>(),
+    ) else {
         return words::say_how_to_call(&errors);
     };
     let Some(side) = side_in(&rt, 2) else {

@@ -42,4 +42,3 @@ named_law s body (suc (suc n)) unused last good bit u l b g =
     let i : body + (suc (suc n) - 1) ≡ body + 1 + n = omega arith in
     let k : last ≡ last_of (octet_at s (body + 1)) (octets_from s (body + 1 + 1) n) = l ∙ ap (octet_at s) i ∙ sym (last_law s (body + 1) n) in
     rw (ne_eqb (suc (suc n)) 1 (λ h. omega arith), g, b, k, u)
-

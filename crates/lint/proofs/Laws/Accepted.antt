@@ -29,7 +29,6 @@ use Rattle.der.specs.declared.walk.Fault.TheVariants.{Unsound, Unordered}
 use Rattle.asn.specs.Grammar.{Verdict}
 use Rattle.asn.specs.declared.fitting.Misfit.TheVariants.{Stranger, Wrong}
 
-
 -- a test that refuses if it fails
 passed : (b : Bool) (a : Result Profile Inadmissible) (r : Inadmissible) (p : Profile) → cond b a (Err r) ≡ Ok p
     → (b ≡ true) × (a ≡ Ok p)
