@@ -1,5 +1,5 @@
 -- A fetch goes forward in the deck and is counted, and there is always room for it.
-use Rattle.std.proofs.Common.{rules, arith, ap, ◌∙◌}
+use Rattle.std.proofs.Common.{rules, arith, ap, ◌∙◌, length-take}
 use Rattle.std.specs.Prelude.{Some}
 use Rattle.retrieval.proofs.Laws.Fetches.{goes_forward}
 use Rattle.deckget.proofs.Laws.Counting.{counted_none, counted_next, counted_all, has_room}
@@ -10,6 +10,12 @@ loop-found-init g c = (search rules, (omega arith, (omega arith, counted_none _ 
 
 pub unwrap-fetched-requires : goal.unwrap-fetched-requires
 unwrap-fetched-requires g c = has_room _ _ _ _ _ _ _ _ (omega (arith, c.loop-found.invariant.0)) c.fetch.ensures c.in-Some.is
+
+pub slice_bounds-write-end : goal.slice_bounds-write-end
+slice_bounds-write-end g c =
+    let told = c.in-Some.is ∙ ap Some c.unwrap-fetched.ensures in
+    let forward = goes_forward _ _ _ _ _ _ _ _ told c.fetch.ensures in
+    simp length-take (omega (arith, forward, c.fetch.auto.out))
 
 pub loop-found-smaller : goal.loop-found-smaller
 loop-found-smaller g c =
