@@ -12,7 +12,7 @@ use der::Head;
 use profiles::Profile;
 use report::Sink;
 
-// A question and no closure: a step has to know that its slot is one of the table, and changes the sink for the next.
+// A question and no closure: a slot's rule goes by it in the specs too (`row_at`), so that one loop is proved for all three.
 #[derive(Clone, Copy)]
 pub enum Question {
     // 300+s
