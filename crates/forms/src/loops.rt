@@ -29,12 +29,9 @@ fn each_among(
         (each_of rule (is_behind (of_kind kind p s.now) place) (children_of s.now from to))
         sink.old sink.new }
 {
-    let mut at = from;
-    while at < to {
-        let item = der::head_at(s, at, to);
+    for item in der::children_of(s, from, to) {
         let bad = is_of_kind(kind, p, s, item);
         sink.note(rule, bad & (place <= item.at), item);
-        at = item.end;
     }
 }
 
@@ -54,12 +51,9 @@ fn each_within(
         (each_of rule (is_behind (of_kind kind p s.now) place) (items_within nest s.now from to))
         sink.old sink.new }
 {
-    let mut at = from;
-    while at < to {
-        let h = der::head_at(s, at, to);
+    for h in der::children_of(s, from, to) {
         let holder = holder_in(nest, s, h);
         each_among(sink, rule, kind, p, s, place, holder.body, holder.end);
-        at = h.end;
     }
 }
 

@@ -4,6 +4,7 @@ ghost use Rattle.forms.specs.Lists.{holder_in};
 
 use der::Head;
 
+// A name for the part and no closure, for the reason of `Kind`; `Items` has it beside its list.
 #[derive(Clone, Copy)]
 pub enum Nest {
     // the attributes of a SET

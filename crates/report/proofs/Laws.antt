@@ -6,6 +6,5 @@ pub mod Members
 pub mod Order
 pub mod Reading
 pub mod First
-pub mod Loops
 pub mod Rows
 pub mod Sinks

@@ -12,7 +12,7 @@ use der::Head;
 use profiles::Profile;
 use report::Sink;
 
-// A question and no closure: a step has to know that its slot is one of the table, and changes the sink for the next.
+// A question and no closure: a slot's rule goes by it in the specs too (`row_at`), so that one loop is proved for all three.
 #[derive(Clone, Copy)]
 pub enum Question {
     // 300+s
@@ -61,10 +61,7 @@ fn of_slot(sink: &mut Sink, question: Question, p: Profile, list: Head, slot: us
 pub fn over_slots(sink: &mut Sink, question: Question, p: Profile, list: Head, each: [Slot; SLOTS])
     ensures { SinkPuts p (rows_over question p list (standings_by (slot_in each))) sink.old sink.new }
 {
-    let mut slot = 1;
-    while slot < SLOTS {
-        let v = each[slot];
-        of_slot(sink, question, p, list, slot, v);
-        slot += 1;
+    for slot in 1..SLOTS {
+        of_slot(sink, question, p, list, slot, each[slot]);
     }
 }

@@ -1,18 +1,17 @@
--- The first element of a list that passes a test; and a walk along the elements of a stretch.
+-- The first element of a list that passes a test.
 --     first_none                   of no elements
 --     first_among, first_passes    what is found is one of the list, and passes
 --     any_full                     at least one passes exactly if there is a first
 --     first_missing                where there is none
 --     first_join                   of two lists: in the one, or else in the other
 --     children_full, any_by_first  the same of the elements of a stretch
---     nearer                       each turn of a walk goes on
 -- Assumes nothing.
 use mathlib.Core.Path.{◌≡◌, refl, sym, ap, ◌∙◌}
 use mathlib.Core.List.Memᴰ
 use mathlib.Core.List.{List, [], ◌∷◌, ◌++◌, Memᴰ}
 use mathlib.Core.Bool.{Bool, true, false, cond, not, ◌||◌, false≢true}
 use mathlib.Core.Logic.{⊎_elim}
-use Prim.Native.Nat.{ℕ, ◌-◌, ◌<◌}
+use Prim.Native.Nat.{ℕ, ◌<◌}
 use native.Mathlib.Nat.{le_refl}
 use native.Mathlib.Omega.{arith}
 use lib.Dec.{leb}
@@ -116,11 +115,3 @@ children_full s at end = go (leb at end) refl
 pub any_by_first : (test : Head → Bool) (s : List ℕ) (at end : ℕ)
     → any_of test (children_of s at end) ≡ not (is_empty (first_of test end (children_of s at end)))
 any_by_first test s at end = any_full test end (children_of s at end) (children_full s at end)
-
--- ---- the walk
-
--- h is the element at a place: behind it less is left
-pub nearer : (s : List ℕ) (at end : ℕ) (h : Head) → at < end → h ≡ head_of s at end → end - h.end < end - at
-nearer s at end h l e =
-    let f = head_forward s at end l in
-    rw e (omega arith)

@@ -1,5 +1,4 @@
 -- Items within items.
---     nested_joined                "each" over the members of elements is "each" over those of one after the other
 --     within_first                 the first of them
 --     any_items, turned            there is one exactly if there is a first
 --     items_in                     an item is a member of what holds the items of one of the elements
@@ -35,25 +34,14 @@ use Rattle.der.proofs.Laws.Children.{children_done}
 use Rattle.der.proofs.Laws.Walking.{children_chain}
 use Rattle.der.proofs.Laws.Searching.{Full, first_none, first_join, any_full, any_by_first, children_full}
 use Rattle.report.specs.Entries.{noted}
-use Rattle.report.proofs.Laws.Loops.{gathered}
 use Rattle.report.specs.Workings.Forms.{each, one, is_behind}
 use Rattle.report.specs.Sinks.{SinkPut}
 use Rattle.report.specs.declared.sink.Sink.{Sink}
 use Rattle.report.proofs.Terms.Items.{Apart, LieBetween}
 use Rattle.report.proofs.Terms.Items.Apart.{no_items}
 use Rattle.report.proofs.Laws.Sinks.{sink_join}
-use Rattle.report.proofs.Laws.Forms.{each_none, each_join}
 use Rattle.report.proofs.Laws.First.{one_by_first}
 use Rattle.report.proofs.Laws.Order.{apart_join, between_join, between_wider, children_apart, children_between}
-
--- part picks what holds the items of an element
-pub nested_joined :
-    (rule : ℕ) (bad : Head → Bool) (s : List ℕ) (part : Head → Head) (hs : List Head)
-    → each rule bad (members_of_each s (map part hs)) ≡ gathered (map (λ h. each rule bad (members_in s (part h))) hs)
-unfolding members_of_each gathered
-nested_joined rule bad s part [] = each_none rule bad
-nested_joined rule bad s part (h ∷ hs) =
-    rw (each_join rule bad (members_in s (part h)) (members_of_each s (map part hs)), nested_joined rule bad s part hs)
 
 -- there is none, where there is one exactly if there is a first
 pub turned : (any none : Bool) → any ≡ not none → none ≡ not any

@@ -1,13 +1,12 @@
--- `forms::loops::each_among` meets its contract. Assumes nothing.
-use Prim.Native.Nat.{◌-◌}
+-- `forms::loops::each_among` meets its contract. The invariant: the entries of the items that are left are still to be put. Assumes nothing.
+use Rattle.der.specs.Header.{children_of}
+use Rattle.der.specs.Children.{children_left}
 use Rattle.forms.specs.Kinds.{of_kind}
-use Rattle.report.specs.Entries.{noted}
-use Rattle.report.specs.Workings.Forms.{is_behind}
-use Rattle.report.proofs.Laws.Loops.{Turn}
+use Rattle.report.specs.Workings.Forms.{each, is_behind}
+use Rattle.report.proofs.Laws.Sinks.{Left}
 use Rattle.forms.proofs.loops.each_among.Given as goal
 
-abbrev pub invariant-loop-at : goal.invariant-loop-at
-invariant-loop-at l = Turn (λ h. noted l.rule (is_behind (of_kind l.kind l.p l.s) l.place h) h) l.s l.to l.from l.initial.sink l.at l.sink
-
-abbrev pub decreases-loop-at : goal.decreases-loop-at
-decreases-loop-at l = l.to - l.at
+abbrev pub invariant-loop-item : goal.invariant-loop-item
+invariant-loop-item l =
+    let bad = is_behind (of_kind l.kind l.p l.s) l.place in
+    Left (each l.rule bad (children_left l.item-iterator)) (each l.rule bad (children_of l.s l.from l.to)) l.initial.sink l.sink

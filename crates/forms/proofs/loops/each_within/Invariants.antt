@@ -1,14 +1,16 @@
--- `forms::loops::each_within` meets its contract. Assumes nothing.
-use Prim.Native.Nat.{◌-◌}
+-- `forms::loops::each_within` meets its contract. The invariant: what the elements that are left hold is still to be put. Assumes nothing.
+use mathlib.Core.List.{List, map}
+use Rattle.der.specs.Header.{children_of}
+use Rattle.der.specs.Children.{children_left}
+use Rattle.der.specs.declared.header.Head.{Head}
 use Rattle.forms.specs.Kinds.{of_kind}
-use Rattle.forms.specs.Lists.{holder_in}
-use Rattle.der.specs.Members.{members_in}
+use Rattle.forms.specs.Lists.{members_of_each, holder_in}
 use Rattle.report.specs.Workings.Forms.{each, is_behind}
-use Rattle.report.proofs.Laws.Loops.{Turn}
+use Rattle.report.specs.declared.sink.Entry.{Entry}
+use Rattle.report.proofs.Laws.Sinks.{Left}
 use Rattle.forms.proofs.loops.each_within.Given as goal
 
-abbrev pub invariant-loop-at : goal.invariant-loop-at
-invariant-loop-at l = Turn (λ h. each l.rule (is_behind (of_kind l.kind l.p l.s) l.place) (members_in l.s (holder_in l.nest l.s h))) l.s l.to l.from l.initial.sink l.at l.sink
-
-abbrev pub decreases-loop-at : goal.decreases-loop-at
-decreases-loop-at l = l.to - l.at
+abbrev pub invariant-loop-h : goal.invariant-loop-h
+invariant-loop-h l =
+    let held : List Head → List Entry = λ hs. each l.rule (is_behind (of_kind l.kind l.p l.s) l.place) (members_of_each l.s (map (holder_in l.nest l.s) hs)) in
+    Left (held (children_left l.h-iterator)) (held (children_of l.s l.from l.to)) l.initial.sink l.sink

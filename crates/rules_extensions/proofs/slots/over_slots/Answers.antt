@@ -1,17 +1,13 @@
-use borrow.Author.Rules.{rules}
+use native.Mathlib.Omega.{arith}
 use Rattle.rules_extensions.specs.Slots.{rows_over}
 use Rattle.certificate.specs.Slots.{numbers_from}
-use Rattle.report.proofs.Laws.Sinks.{left_start}
 use Rattle.rules_extensions.proofs.Laws.Slots.{rows_from, slots_turn, slots_end}
 use Rattle.rules_extensions.proofs.slots.over_slots.Goals as goal
-
-pub loop-slot-init : goal.loop-slot-init
-loop-slot-init c = (search rules, left_start _ _)
 
 pub loop-slot-preserved : goal.loop-slot-preserved
 loop-slot-preserved c =
     let loop = c.loop-slot in
-    (search rules, slots_turn _ loop.slot _ c.loop-slot-test.true loop.invariant.1 c.of_slot.ensures)
+    (omega arith, slots_turn _ loop.slot _ c.loop-slot-test.true loop.invariant.1 c.of_slot.ensures)
 
 pub returns : goal.returns
 unfolding rows_over rows_from numbers_from

@@ -1,6 +1,6 @@
 -- `rules_extensions::slots::over_slots` meets its contract. The invariant: the rules of the slots from this one on are still to be put. Assumes nothing.
 use mathlib.Core.List.{List}
-use Prim.Native.Nat.{ℕ, ◌-◌, ◌≤◌}
+use Prim.Native.Nat.{ℕ, ◌≤◌}
 use Rattle.rules_extensions.specs.Slots.{row_at}
 use Rattle.rules_extensions.specs.declared.slots.Question.{Question}
 use Rattle.der.specs.declared.header.Head.{Head}
@@ -20,6 +20,3 @@ row_in question p list each k = row_at question p list k (standing_by (slot_in e
 abbrev pub invariant-loop-slot : goal.invariant-loop-slot
 invariant-loop-slot l = (l.slot ≤ slot_count)
     × Left (findings_of l.p (rows_from (row_in l.question l.p l.list l.each) l.slot)) (findings_of l.p (rows_from (row_in l.question l.p l.list l.each) 1)) l.initial.sink l.sink
-
-abbrev pub decreases-loop-slot : goal.decreases-loop-slot
-decreases-loop-slot l = slot_count - l.slot
