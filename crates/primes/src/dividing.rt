@@ -51,11 +51,11 @@ fn none_divides(s: &[u8], body: usize, end: usize, primes: &[u16], products: &[u
 {
     let mut last: u64 = 1;
     let mut r: u64 = 0;
-    for k in 0..primes.len() {
-        let m = products[k] as u64;
+    for (prime, product) in primes.iter().zip(products) {
+        let m = u64::from(*product);
         r = renew(s, body, end, last, r, m);
         last = m;
-        if r % (primes[k] as u64) == 0 {
+        if r % u64::from(*prime) == 0 {
             return false;
         }
     }
