@@ -24,11 +24,10 @@ fn residue(s: &[u8], body: usize, end: usize, m: u64) -> u64
 {
     let a = 4294967296 % m;
     let b = a * a % m;
-    let mut i = body + octets::minus(end, body) % 4;
-    let mut r = small(s, body, i) as u64;
-    while i < end {
+    let start = body + octets::minus(end, body) % 4;
+    let mut r = small(s, body, start) as u64;
+    for i in (start..end).step_by(4) {
         r = step(r, a, b, word_at(s, i));
-        i += 4;
     }
     r % m
 }
