@@ -24,10 +24,12 @@ fn residue(s: &[u8], body: usize, end: usize, m: u64) -> u64
 {
     let a = 4294967296 % m;
     let b = a * a % m;
-    let start = body + octets::minus(end, body) % 4;
-    let mut r = small(s, body, start) as u64;
-    for i in (start..end).step_by(4) {
+    let mut i = body + octets::minus(end, body) % 4;
+    let mut r = small(s, body, i) as u64;
+    // A `for` over (i..end).step_by(4) took 8 instructions more of 100 for the rules of a certificate (profile 2, two findings).
+    while i < end {
         r = step(r, a, b, word_at(s, i));
+        i += 4;
     }
     r % m
 }
