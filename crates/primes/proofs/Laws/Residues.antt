@@ -1,18 +1,19 @@
 -- Residues: a number modulo m, four octets at a time, and modulo a divisor of m.
 --     product, step_parts, residue_below     the sums stay within 64 bits
 --     start, more, done        the loop over the words
---     next_row                 what the tables have beside each other
+--     row                      what the tables have at each place
 --     free_bad, free_good, free_done     the loop over the primes
 -- Assumes nothing.
 use mathlib.Core.Path.{◌≡◌, refl, sym, ap, ap₂, ◌∙◌}
 use mathlib.Core.List.{List, [], ◌∷◌}
-use mathlib.Core.Logic.{◌⊎◌, inl, inr}
 use mathlib.Core.Bool.{true, false, ◌&&◌}
 use Prim.Native.Nat.{ℕ, zero, suc, ◌+◌, ◌-◌, ◌*◌, ◌/◌, ◌%◌, ◌^◌, ◌≤◌, ◌<◌, ◌∣◌, min}
 use native.Mathlib.Nat.{mod-mod, add-mod, mod-add-div, div-add-mod', add-mul-mod_self_left, mod-mod_of_dvd, dvd_of_mod-eq-zero, mul-le-mul}
-use native.Mathlib.Nat.{lt_of_lt_of_le, add-zero, mod-lt}
+use native.Mathlib.Nat.{lt_of_lt_of_le, add-zero, mod-lt, le_of_suc-le-suc, not-suc-le-zero}
+use native.Mathlib.Numerals.{add-one}
 use native.Mathlib.Omega.{arith}
-use lib.ListN.{length}
+use lib.ListN.{length, get_or, drop, drop_of_length-le}
+use lib.Seq.{drop-cons}
 use lib.Pow.{pow_mono}
 use lib.Dec.{ltb, leb, eqb}
 use borrow.Author.Tests.{eq-eqb, ne_eqb, eqb-true, ltb-true, leb-true}
@@ -165,36 +166,31 @@ row_of p m t =
       divides = dvd_of_mod-eq-zero p (eqb-true (m % p) 0 (and_r (leb m (2 ^ 31)) (eqb (m % p) 0) v));
     }
 
--- the rows that come next, and those behind them
-pub next_row : (p m : ℕ) (ps ms qs ns : List ℕ) → rows_ok ps ms ≡ true → ps ≡ p ∷ qs → ms ≡ m ∷ ns → Row p m × (rows_ok qs ns ≡ true)
+pub row : (ps ms : List ℕ) → rows_ok ps ms ≡ true → (k : ℕ) → k < length ps → (k < length ms) × Row (get_or ps k 0) (get_or ms k 0)
 unfolding rows_ok
-next_row p m ps ms qs ns t e f =
-    let x = ltb 0 p && (ltb 0 m && (leb m (2 ^ 31) && eqb (m % p) 0)) in
-    let u : (x && rows_ok qs ns) ≡ true = rw (e, f) at t in
-    (row_of p m (and_l x (rows_ok qs ns) u), and_r x (rows_ok qs ns) u)
+row [] ms t k h = absurd (not-suc-le-zero h)
+row (p ∷ ps) [] t k h = absurd (never t)
+row (p ∷ ps) (m ∷ ms) t zero h =
+    (omega arith, row_of p m (and_l (ltb 0 p && (ltb 0 m && (leb m (2 ^ 31) && eqb (m % p) 0))) (rows_ok ps ms) t))
+row (p ∷ ps) (m ∷ ms) t (suc k) h =
+    let r = row ps ms (and_r (ltb 0 p && (ltb 0 m && (leb m (2 ^ 31) && eqb (m % p) 0))) (rows_ok ps ms) t) k (le_of_suc-le-suc h) in
+    let l = r.0 in (omega arith, r.1)
 
 -- ---- the loop over the primes
 
--- r is the number modulo the product beside the next prime
-module _ (p m : ℕ) (w : Row p m) (ps qs : List ℕ) (h : ps ≡ p ∷ qs) (v r : ℕ) (e : r ≡ v % m) where
-  down : r % p ≡ v % p
-  down = ap (λ (x : ℕ). x % p) e ∙ mod-mod_of_dvd p v w.divides
+-- r is the number modulo the product beside the kth prime
+module _ (ps ms : List ℕ) (t : rows_ok ps ms ≡ true) (k v r : ℕ) (h : k < length ps) (e : r ≡ v % get_or ms k 0) where
+  down : r % get_or ps k 0 ≡ v % get_or ps k 0
+  down = ap (λ (x : ℕ). x % get_or ps k 0) e ∙ mod-mod_of_dvd (get_or ps k 0) v (row ps ms t k h).1.divides
 
-  pub free_bad : r % p ≡ 0 → free_of ps v ≡ false
+  pub free_bad : r % get_or ps k 0 ≡ 0 → free_of (drop k ps) v ≡ false
   unfolding free_of
-  free_bad z = rw (h, ← down, eq-eqb (r % p) 0 z)
+  free_bad z = rw (drop-cons ps k 0 h, ← down, eq-eqb (r % get_or ps k 0) 0 z)
 
-  pub free_good : (r % p ≡ 0 → ⊥) → free_of ps v ≡ free_of qs v
+  pub free_good : (r % get_or ps k 0 ≡ 0 → ⊥) → free_of (drop k ps) v ≡ free_of (drop (k + 1) ps) v
   unfolding free_of
-  free_good z = rw (h, ← down, ne_eqb (r % p) 0 z)
+  free_good z = rw (drop-cons ps k 0 h, ← down, ne_eqb (r % get_or ps k 0) 0 z, add-one k)
 
-cons_some : (x : ℕ) (xs : List ℕ) → x ∷ xs ≡ [] → ⊥
-cons_some x xs e = let l : suc (length xs) ≡ 0 = ap length e in omega arith
-
--- where one of the tables ends, no prime is left
-pub free_done : (ps ms : List ℕ) (v : ℕ) → rows_ok ps ms ≡ true → (ps ≡ []) ⊎ (ms ≡ []) → free_of ps v ≡ true
-unfolding rows_ok free_of
-free_done [] ms v t h = refl
-free_done (p ∷ ps) [] v t h = absurd (never t)
-free_done (p ∷ ps) (m ∷ ms) v t (inl e) = absurd (cons_some p ps e)
-free_done (p ∷ ps) (m ∷ ms) v t (inr e) = absurd (cons_some m ms e)
+pub free_done : (ps : List ℕ) (k v : ℕ) → length ps ≤ k → free_of (drop k ps) v ≡ true
+unfolding free_of
+free_done ps k v h = rw (drop_of_length-le ps h)
