@@ -22,11 +22,7 @@ fn plain_sum(part: &[u8]) -> u16
     requires { length part.now ≤ 255 }
     ensures { weigh 1 part.now ≡ weigh 0 part.now + result }
 {
-    let mut sum: u16 = 0;
-    for b in part {
-        sum += u16::from(*b);
-    }
-    sum
+    part.iter().map(|b| u16::from(*b)).sum()
 }
 
 // What the low octets of the weights leave is 256 times the octets from place 255 on. All of it stays below 2^27, so one

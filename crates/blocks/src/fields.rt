@@ -19,7 +19,7 @@ pub fn record_length(block: &[u8]) -> usize
 pub fn part_of(block: &[u8]) -> usize
     ensures { (result ≡ part_of block.now) × (result < 256) }
 {
-    octets::wide(octets::octet(block, 6))
+    usize::from(octets::octet(block, 6))
 }
 
 pub fn is_clear(block: &[u8]) -> bool

@@ -26,6 +26,7 @@ fn residue(s: &[u8], body: usize, end: usize, m: u64) -> u64
     let b = a * a % m;
     let mut i = body + octets::minus(end, body) % 4;
     let mut r = small(s, body, i) as u64;
+    // A `for` over (i..end).step_by(4) took 8 instructions more of 100 for the rules of a certificate (profile 2, two findings).
     while i < end {
         r = step(r, a, b, word_at(s, i));
         i += 4;
@@ -51,6 +52,7 @@ fn none_divides(s: &[u8], body: usize, end: usize, primes: &[u16], products: &[u
 {
     let mut last: u64 = 1;
     let mut r: u64 = 0;
+    // Over primes.iter().zip(products) it took 9 instructions more of 1,000 there: both are walked by their index.
     for k in 0..primes.len() {
         let m = products[k] as u64;
         r = renew(s, body, end, last, r, m);

@@ -2,7 +2,7 @@
 --     weigh_by                      with any weights
 --     Summed, sum_next, sum_all    the sum of the first octets, each product at most m: with one octet more, and with all
 --     low, low_parts               with weights modulo 256: 1 to 255, then 0, 1 and on
---     plain, plain_apart           with the weight 1: how far two sums are apart whose weights differ by 1
+--     sum_apart                    how far two sums are apart whose weights differ by 1
 --     weigh_short, weigh_long      the weighted sum from these two
 --     weigh_set                    another octet at a place
 -- Assumes nothing.
@@ -15,6 +15,8 @@ use native.Mathlib.Numerals.{add-one}
 use native.Mathlib.Omega.{arith}
 use lib.ListN.{length, get_or, set, take, drop, length-take, length-drop, take-append-drop, drop_of_length-le}
 use lib.Seq.{take-suc, take_all, length-take-le}
+use Rattle.std.specs.Prelude.{sum}
+use Rattle.std.proofs.lemmas.List.Sums.{sum_by-cons}
 use Rattle.blocks.specs.Block.{weigh}
 use Rattle.blocks.proofs.Laws.Logic.{below_or_not}
 
@@ -68,9 +70,6 @@ weigh_by_lem w (x ∷ xs) = ap (λ (n : ℕ). w * x + n) (weigh_by_lem (suc w) x
 abbrev pub low : ℕ → List ℕ → ℕ
 low w xs = weigh_by (λ n. n % 256) w xs
 
-abbrev pub plain : List ℕ → ℕ
-plain xs = weigh_by (λ n. 1) 1 xs
-
 module _ (b : List ℕ) where
   abbrev front : List ℕ
   front = take 255 b
@@ -95,14 +94,14 @@ module _ (b : List ℕ) where
           by_same (λ n. n % 256) (λ n. n) (1 + length front) 0 back
           (λ i k. let d = length-drop 255 b in let e = length-take-le 255 b l in omega arith)
 
-weigh_more : (m w v : ℕ) (xs : List ℕ) → weigh (m + w) xs ≡ weigh w xs + m * weigh_by (λ n. 1) v xs
-weigh_more m w v [] = omega arith
-weigh_more m w v (x ∷ xs) =
+weigh_more : (m w : ℕ) (xs : List ℕ) → weigh (m + w) xs ≡ weigh w xs + m * sum xs
+weigh_more m w [] = omega arith
+weigh_more m w (x ∷ xs) =
     let e : suc (m + w) ≡ m + suc w = omega arith in
-    omega (arith, weigh_more m (suc w) (suc v) xs, ap (λ (u : ℕ). weigh u xs) e)
+    rw (sum_by-cons (λ n. n) x xs) (omega (arith, weigh_more m (suc w) xs, ap (λ (u : ℕ). weigh u xs) e))
 
-pub plain_apart : (xs : List ℕ) → weigh 1 xs ≡ weigh 0 xs + plain xs
-plain_apart xs = omega (arith, weigh_more 1 0 1 xs)
+pub sum_apart : (xs : List ℕ) → weigh 1 xs ≡ weigh 0 xs + sum xs
+sum_apart xs = omega (arith, weigh_more 1 0 xs)
 
 pub weigh_short : (b : List ℕ) → length b ≤ 255 → weigh 1 (take 255 b) + weigh 0 (drop 255 b) ≡ weigh 1 b
 weigh_short b h = rw (take_all 255 b h, drop_of_length-le b h) (omega arith)
@@ -114,7 +113,7 @@ weigh_long b high h e =
     let whole : weigh 1 b ≡ weigh 1 (take 255 b) + weigh 256 (drop 255 b) =
     rw (weigh_by_lem 1 b, weigh_by_lem 1 (take 255 b), weigh_by_lem 256 (drop 255 b))
     (cut b (λ n. n) ∙ ap (λ (v : ℕ). weigh_by (λ n. n) 1 (take 255 b) + weigh_by (λ n. n) v (drop 255 b)) n) in
-    omega (arith, whole, weigh_more 256 0 1 (drop 255 b), plain_apart (drop 255 b))
+    omega (arith, whole, weigh_more 256 0 (drop 255 b), sum_apart (drop 255 b))
 
 -- another octet at i
 pub weigh_set : (w : ℕ) (b : List ℕ) (i x : ℕ) → i < length b → weigh w (set b i x) + (w + i) * get_or b i 0 ≡ weigh w b + (w + i) * x
