@@ -67,10 +67,7 @@ def point_1(files):
     for name, text in files:
         for at, enum, variants in enums(text):
             yield f"{name}:{at}: enum {enum} {{ {', '.join(variants)} }}"
-    for name, text in files:
-        for at, line in enumerate(bare(text)):
-            if re.match(r"\s+(pub )?\w+: bool,$", line):
-                yield f"{name}:{at + 1}: flag {line.strip()}"
+    yield from lines_with(files, r"^\s+(pub )?\w+: bool,$")
     for name, text in files:
         for at, function, _, body in functions(text):
             if len(re.findall(r"^\s+(?:0x)?[0-9A-F]+(?: \| \w+)* =>", body, re.M)) > 1:
@@ -99,11 +96,16 @@ def point_2(files):
             yield "; ".join(twins)
 
 
-def point_3(files):
+def lines_with(files, pattern):
+    """The lines in which a pattern is found, each with its place."""
     for name, text in files:
         for at, line in enumerate(bare(text)):
-            if re.search(r"\b(while|loop)\b", line):
+            if re.search(pattern, line):
                 yield f"{name}:{at + 1}: {line.strip()}"
+
+
+def point_3(files):
+    return lines_with(files, r"\b(while|loop)\b")
 
 
 def point_4(files):
@@ -131,10 +133,7 @@ def point_5(files):
 
 
 def point_6(files):
-    for name, text in files:
-        for at, line in enumerate(bare(text)):
-            if re.search(r"\[[^\]]+; [^\]]+\]", line):
-                yield f"{name}:{at + 1}: {line.strip()}"
+    return lines_with(files, r"\[[^\]]+; [^\]]+\]")
 
 
 def point_7(files):

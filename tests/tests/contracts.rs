@@ -11,6 +11,9 @@ fn has_effect(function: &Function) -> bool {
     function.signature().contains("->") || function.signature().contains("&mut")
 }
 
+/// A buffer that the answer goes on borrowing, as a sink does the room.
+const KEPT: &str = "&'a mut";
+
 /// The names of the parameters that are lent to be changed, without files and other streams, of which no contract can say
 /// what they take or give.
 fn lent(function: &Function) -> Vec<&str> {
@@ -19,18 +22,22 @@ fn lent(function: &Function) -> Vec<&str> {
     function
         .signature()
         .split(|c: char| c == ',' || c == '(' || c == ')')
-        .filter(|parameter| parameter.contains("&mut") && !is_stream(parameter.trim_end()))
+        .filter(|parameter| ["&mut", KEPT].iter().any(|kind| parameter.contains(kind)) && !is_stream(parameter.trim_end()))
         .filter_map(|parameter| parameter.split(':').next())
         .map(|name| name.trim().trim_start_matches("&mut "))
         .collect()
 }
 
-/// Whether every buffer that it may change is named in a clause, as it is right after the body.
+/// Whether every buffer that it may change is named in a clause, as it is right after the body; one that the answer goes on borrowing, as it
+/// was passed, which is what the answer then stands over.
 fn settles_buffers(function: &Function) -> bool {
     let clauses = function.clauses();
-    let words = || clauses.split(|c: char| c.is_whitespace() || "(){},".contains(c));
-    let names = |text: &str, name| text.strip_prefix(name).is_some_and(|rest| is_after_body(rest));
-    lent(function).iter().all(|name| words().any(|word| names(word, *name)))
+    let words = || clauses.split(|c: char| c.is_whitespace() || "(){},;".contains(c));
+    let is_kept = |name: &str| function.signature().contains(&format!("{name}: {KEPT}"));
+    let names = |word: &str, name: &str| {
+        word.strip_prefix(name).is_some_and(|rest| if is_kept(name) { rest == ".entry" } else { is_after_body(rest) })
+    };
+    lent(function).iter().all(|name| words().any(|word| names(word, name)))
 }
 
 /// Whether this goes on behind a buffer's name as what it holds after the body, or as a part of that.
@@ -66,14 +73,17 @@ fn every_public_contract_settles_the_buffers_that_are_lent() {
     assert!(loose.is_empty(), "public functions whose contract leaves a lent buffer open: {loose:#?}");
 }
 
-/// Whether a function asks something of its callers. That a closure may be called has to be asked wherever one is taken, and nothing else
-/// is: such a clause is made of the closure's `pre` alone.
+/// That a closure of one argument, or of two, may be called: this has to be asked wherever one is taken.
+const CALLABLE: [&str; 2] =
+    ["requires { (state : F) (x : _) → F.pre state x }", "requires { (state : F) (x : _) (y : _) → F.pre state x y }"];
+
+/// Whether a function asks something of its callers. In the lowest layer alone, which is no entry point, it may ask that a closure
+/// can be called, and nothing besides.
 fn asks(f: &Function) -> bool {
     let Some(from) = f.head.find("requires") else { return false };
     let to = f.head.find("ensures").unwrap_or(f.head.len());
-    let clause = f.head[from..to.max(from)].trim();
-    let callable = clause.starts_with("requires { (state : F) ") && clause.matches("F.pre state").count() == 1;
-    !callable || ["≡", "<", "≤", "×"].iter().any(|sign| clause.contains(sign)) || clause.matches("requires").count() > 1
+    let is_lowest = f.file.ends_with("crates/octets/src/stretches.rt");
+    !(is_lowest && CALLABLE.contains(&f.head[from..to.max(from)].trim()))
 }
 
 #[test]
@@ -103,10 +113,18 @@ fn a_bare_function_is_told_apart() {
     assert!(settles_buffers(&loading) && lent(&loading) == ["room"]);
     let method = Function { head: "fn put(&mut self, b: u8) ensures { Put b self.old self.new }".to_string(), ..loading };
     assert!(settles_buffers(&method) && lent(&method) == ["self"]);
-    let asking = |head: &str| asks(&Function { file: PathBuf::new(), name: String::new(), is_public: true, is_method: false, head: head.to_string() });
-    assert!(!asking("fn all<F: Fn(u8) -> bool>(test: F) -> bool requires { (state : F) (x : _) → F.pre state x } ensures { P result }"));
-    assert!(asking("fn all<F: Fn(u8) -> bool>(n: usize, test: F) -> bool requires { (state : F) (x : _) → n < 8 → F.pre state x } ensures { P result }"));
-    assert!(asking("fn half(n: usize) -> usize requires { n < 8 } ensures { P result }"));
+    let head = "fn new(room: &'a mut [u8]) -> Sink<'a> ensures { IsOver room.entry result }";
+    let keeping = Function { head: head.to_string(), ..method };
+    assert!(settles_buffers(&keeping) && lent(&keeping) == ["room"]);
+    let silent = "fn new(room: &'a mut [u8]) -> Sink<'a> ensures { IsNew result }";
+    assert!(!settles_buffers(&Function { head: silent.to_string(), ..keeping }));
+    let asking = |file: &str, clauses: &str| {
+        let (name, head) = ("all".to_string(), format!("fn all<F: Fn(u8) -> bool>(n: usize, test: F) -> bool {clauses} ensures {{ P result }}"));
+        asks(&Function { file: PathBuf::from(file), name, is_public: true, is_method: false, head })
+    };
+    let lowest = "crates/octets/src/stretches.rt";
+    assert!(!asking(lowest, "") && !asking(lowest, CALLABLE[0]) && asking("crates/lint/src/linting.rt", CALLABLE[0]));
+    assert!(asking(lowest, "requires { n < 8 }") && asking(lowest, "requires { (state : F) (x : _) → n < 8 → F.pre state x }"));
     let named = head_of("fn f() -> u8 ensures small { x } { 1 }");
     assert!(named.ends_with("} "));
 }

@@ -3,10 +3,11 @@
 --     counted_next     a side that was fetched is counted
 --     counted_all      where nothing is left, all are counted
 --     has_room         there is room for a side that was found
+--     moved            what was found goes forward, not past the deck's end, and lies in the space
 -- Assumes nothing.
 use mathlib.Core.List.{List, [], ◌∷◌}
-use mathlib.Core.Path.{◌≡◌, refl, ap}
-use Prim.Native.Nat.{ℕ, ◌+◌, ◌≤◌}
+use mathlib.Core.Path.{◌≡◌, refl, ap, ◌∙◌}
+use Prim.Native.Nat.{ℕ, ◌+◌, ◌*◌, ◌≤◌, ◌<◌}
 use native.Mathlib.Omega.{arith}
 use Rattle.std.specs.Prelude.{Option, Some, None, Result, Ok, Err, IsOk}
 use lib.ListN.{length, take}
@@ -15,7 +16,7 @@ use Rattle.retrieval.specs.Fetching.{sides_of}
 use Rattle.retrieval.specs.Fetches.{FetchedFrom, Fetches, nothing, another}
 use Rattle.retrieval.specs.declared.Fetched.{Fetched}
 use Rattle.retrieval.specs.declared.NoRoom.{NoRoom}
-use Rattle.retrieval.proofs.Laws.Fetches.{room_enough, fetches_all}
+use Rattle.retrieval.proofs.Laws.Fetches.{goes_forward, room_enough, fetches_all}
 
 module _ (deck : List ℕ) (number : ℕ) (side : Side) where
   abbrev pub Counted : ℕ → ℕ → Type 0
@@ -45,3 +46,10 @@ module _ (deck : List ℕ) (number : ℕ) (side : Side) where
       → FetchedFrom deck position number side out r last → r ≡ Some found → IsOk found
   has_room position out last r (Ok fetched) room h e = refl
   has_room position out last r (Err x) room h e = absurd (room_enough deck number side position out last r room h e)
+
+  pub moved : (position : ℕ) (out last : List ℕ) (r : Option (Result Fetched NoRoom)) (found : Result Fetched NoRoom) (fetched : Fetched)
+      → r ≡ Some found → found ≡ Ok fetched → FetchedFrom deck position number side out r last
+      → (r ≡ Some (Ok fetched)) × ((position < fetched.next) × (512 * fetched.next ≤ length deck) × (fetched.length ≤ length out))
+  moved position out last r found fetched e u h =
+      let told = e ∙ ap Some u in
+      (told, goes_forward deck number side position fetched out last r told h)

@@ -1,8 +1,6 @@
 -- A fetch goes forward in the deck and is counted, and there is always room for it.
-use Rattle.std.proofs.Common.{rules, arith, ap, ◌∙◌, length-take}
-use Rattle.std.specs.Prelude.{Some}
-use Rattle.retrieval.proofs.Laws.Fetches.{goes_forward}
-use Rattle.deckget.proofs.Laws.Counting.{counted_none, counted_next, counted_all, has_room}
+use Rattle.std.proofs.Common.{rules, arith, length-take}
+use Rattle.deckget.proofs.Laws.Counting.{counted_none, counted_next, counted_all, has_room, moved}
 use Rattle.deckget.proofs.write_sides.Goals as goal
 
 pub loop-found-init : goal.loop-found-init
@@ -13,23 +11,21 @@ unwrap-fetched-requires g c = has_room _ _ _ _ _ _ _ _ (omega (arith, c.loop-fou
 
 pub slice_bounds-write-end : goal.slice_bounds-write-end
 slice_bounds-write-end g c =
-    let told = c.in-Some.is ∙ ap Some c.unwrap-fetched.ensures in
-    let forward = goes_forward _ _ _ _ _ _ _ _ told c.fetch.ensures in
-    simp length-take (omega (arith, forward, c.fetch.auto.out))
+    let found = moved _ _ _ _ _ _ _ _ _ c.in-Some.is c.unwrap-fetched.ensures c.fetch.ensures in
+    simp length-take (omega (arith, found.1, c.fetch.auto.out))
 
 pub loop-found-smaller : goal.loop-found-smaller
 loop-found-smaller g c =
-    let told = c.in-Some.is ∙ ap Some c.unwrap-fetched.ensures in
-    omega (arith, goes_forward _ _ _ _ _ _ _ _ told c.fetch.ensures)
+    let found = moved _ _ _ _ _ _ _ _ _ c.in-Some.is c.unwrap-fetched.ensures c.fetch.ensures in
+    omega (arith, found.1)
 
 pub loop-found-preserved : goal.loop-found-preserved
 loop-found-preserved g c =
-    let told = c.in-Some.is ∙ ap Some c.unwrap-fetched.ensures in
-    let forward = goes_forward _ _ _ _ _ _ _ _ told c.fetch.ensures in (
+    let found = moved _ _ _ _ _ _ _ _ _ c.in-Some.is c.unwrap-fetched.ensures c.fetch.ensures in (
       omega (arith, c.loop-found.invariant.0, c.fetch.auto.out),
       (
-        omega (arith, forward, c.loop-found.invariant.1.0),
-        (forward.1, counted_next _ _ _ _ _ _ _ _ c.fetch.ensures c.loop-found.invariant.1.1.1 _ told),
+        omega (arith, found.1, c.loop-found.invariant.1.0),
+        (found.1.1, counted_next _ _ _ _ _ _ _ _ c.fetch.ensures c.loop-found.invariant.1.1.1 _ found.0),
       ),
     )
 
