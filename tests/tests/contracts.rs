@@ -73,22 +73,13 @@ fn every_public_contract_settles_the_buffers_that_are_lent() {
     assert!(loose.is_empty(), "public functions whose contract leaves a lent buffer open: {loose:#?}");
 }
 
-/// That a closure of one argument, or of two, may be called: this has to be asked wherever one is taken.
-const CALLABLE: [&str; 2] =
-    ["requires { (state : F) (x : _) → F.pre state x }", "requires { (state : F) (x : _) (y : _) → F.pre state x y }"];
-
-/// Whether a function asks something of its callers. In the lowest layer alone, which is no entry point, it may ask that a closure
-/// can be called, and nothing besides.
-fn asks(f: &Function) -> bool {
-    let Some(from) = f.head.find("requires") else { return false };
-    let to = f.head.find("ensures").unwrap_or(f.head.len());
-    let is_lowest = f.file.ends_with("crates/octets/src/stretches.rt");
-    !(is_lowest && CALLABLE.contains(&f.head[from..to.max(from)].trim()))
-}
-
 #[test]
 fn no_public_function_requires_anything() {
-    let asking: Vec<String> = all_functions().iter().filter(|f| f.is_public && asks(f)).map(Function::shown).collect();
+    let asking: Vec<String> = all_functions()
+        .iter()
+        .filter(|f| f.is_public && f.has_clause("requires"))
+        .map(Function::shown)
+        .collect();
     assert!(asking.is_empty(), "public functions with a `requires`: {asking:#?}");
 }
 
@@ -118,13 +109,6 @@ fn a_bare_function_is_told_apart() {
     assert!(settles_buffers(&keeping) && lent(&keeping) == ["room"]);
     let silent = "fn new(room: &'a mut [u8]) -> Sink<'a> ensures { IsNew result }";
     assert!(!settles_buffers(&Function { head: silent.to_string(), ..keeping }));
-    let asking = |file: &str, clauses: &str| {
-        let (name, head) = ("all".to_string(), format!("fn all<F: Fn(u8) -> bool>(n: usize, test: F) -> bool {clauses} ensures {{ P result }}"));
-        asks(&Function { file: PathBuf::from(file), name, is_public: true, is_method: false, head })
-    };
-    let lowest = "crates/octets/src/stretches.rt";
-    assert!(!asking(lowest, "") && !asking(lowest, CALLABLE[0]) && asking("crates/lint/src/linting.rt", CALLABLE[0]));
-    assert!(asking(lowest, "requires { n < 8 }") && asking(lowest, "requires { (state : F) (x : _) → n < 8 → F.pre state x }"));
     let named = head_of("fn f() -> u8 ensures small { x } { 1 }");
     assert!(named.ends_with("} "));
 }

@@ -26,7 +26,7 @@ fn is_as_in(f: u8, c: u8) -> bool
 fn has_form(form: &[u8], s: &[u8], at: usize, n: usize) -> bool
     ensures { result ≡ has_form (octets_from form.now 0 n) (octets_from s.now at n) }
 {
-    octets::all_beside(form, 0, s, at, n, |f, c| is_as_in(f, c))
+    (0..n).all(|k| is_as_in(octets::octet(form, k), octets::octet_past(s, at, k)))
 }
 
 // Whether a name is a URI that says a UUID. The length decides for most, before the form is laid out.

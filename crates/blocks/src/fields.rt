@@ -39,12 +39,7 @@ pub fn is_record_length(n: usize) -> bool
 pub fn is_filled(block: &[u8], used: usize) -> bool
     ensures { result ≡ are_zero (drop used (data_of block.now)) }
 {
-    octets::all(
-        block,
-        used.saturating_add(8),
-        octets::minus(502, used),
-        |b| b == 0,
-    )
+    octets::octets_from(block, used.saturating_add(8), octets::minus(502, used)).all(|b| b == 0)
 }
 
 // How many parts a record of n octets has.

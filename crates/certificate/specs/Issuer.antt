@@ -1,6 +1,6 @@
 -- "The issuer counts only by its subject name and its key identifier" (document 01, "The report").
-use Rattle.std.specs.Prelude.{List, ℕ, Option, Some, None}
-use Rattle.std.specs.Bool.{then_some}
+use Rattle.std.specs.Prelude.{List, ℕ, cond, Option, Some, None, Result, Ok, Err}
+use Rattle.std.specs.Result.{result_ok}
 use Rattle.std.specs.Option.{option_map}
 use Rattle.certificate.specs.Fields.{certificate_of}
 use Rattle.certificate.specs.Slots.{first_in_slot, slot_from}
@@ -38,11 +38,15 @@ known_of octets =
 unfoldable pub key_id_in : List ℕ → Head → Slot
 key_id_in i list = slot_from i 3 (first_in_slot i list.end (members_in i list) 3)
 
+-- the element of a slot, and as an error one that is missing or bad
+abbrev pub element_in : Slot → Result Head Head
+element_in slot = cond slot.good (Ok slot.element) (Err slot.element)
+
 unfoldable pub issuer_of : List ℕ → Issuer
 issuer_of i =
     record {
       name = (certificate_of i).subject;
-      key_id = then_some (key_id_in i (certificate_of i).extensions).good (key_id_in i (certificate_of i).extensions).element;
+      key_id = element_in (key_id_in i (certificate_of i).extensions);
     }
 
 -- the contents of the OCTET STRING, if there is a good one
@@ -50,4 +54,4 @@ abbrev pub key_identifier_of : List ℕ → Option Head → Option (List ℕ)
 key_identifier_of octets h = option_map (contents_of octets) h
 
 abbrev pub known : List ℕ → Issuer → Known
-known octets i = record { name = octets_of octets i.name; key = key_identifier_of octets i.key_id }
+known octets i = record { name = octets_of octets i.name; key = key_identifier_of octets (result_ok i.key_id) }

@@ -11,6 +11,7 @@ ghost use Rattle.std.specs.Prelude.{◌≤◌, length};
 ghost use Rattle.listing.specs.Filling.{item_space};
 
 use std::io::{Print, Read};
+use std::ops::ControlFlow;
 
 fn write(output: &impl Print, errors: &impl Print, octets: &[u8]) -> bool {
     streams::write_out(output, errors, octets, b"decklint: standard output")
@@ -26,7 +27,7 @@ fn list_deck(output: &impl Print, errors: &impl Print, deck: &[u8], out: &mut [u
         if !write(output, errors, &out[..filling.end]) {
             return;
         }
-        let Some(next) = filling.next else {
+        let ControlFlow::Continue(next) = filling.next else {
             return;
         };
         progress = next;

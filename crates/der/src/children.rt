@@ -33,7 +33,8 @@ impl Iterator for Children<'_> {
 
 // The elements from place `at` to `end`.
 pub fn children_of(s: &[u8], at: usize, end: usize) -> Children<'_>
-    ensures { children_left result ≡ children_of s.now at end }
+    ensures whole { result ≡ record { octets = s.entry; at = at; end = end } }
+    ensures left { children_left result ≡ children_of s.now at end }
 {
     Children {
         octets: s,
@@ -44,7 +45,8 @@ pub fn children_of(s: &[u8], at: usize, end: usize) -> Children<'_>
 
 // The members of an element.
 pub fn members_in(s: &[u8], h: Head) -> Children<'_>
-    ensures { children_left result ≡ members_in s.now h }
+    ensures whole { result ≡ record { octets = s.entry; at = h.body; end = h.end } }
+    ensures left { children_left result ≡ members_in s.now h }
 {
     children_of(s, h.body, h.end)
 }

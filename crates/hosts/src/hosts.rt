@@ -12,7 +12,7 @@ use der::Head;
 fn has_octet(s: &[u8], x: u8, body: usize, n: usize) -> bool
     ensures { result ≡ is_one_of x (octets_from s.now body n) }
 {
-    octets::any(s, body, n, |b| b == x)
+    octets::octets_from(s, body, n).any(|b| b == x)
 }
 
 // Rule 413: a dNSName with an underscore.

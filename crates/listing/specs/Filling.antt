@@ -1,5 +1,7 @@
 -- The listing a bufferful at a time: what one fill of a buffer puts there. It goes by what is handed over, item by item, and never cuts the lines of one.
-use Rattle.std.specs.Prelude.{cond, Option, Some, None, List, [], ◌∷◌, ◌++◌, ◌≡◌, ℕ, suc, ◌+◌, ◌*◌, ◌/◌, min, leb, length, take, drop}
+use Rattle.std.specs.Prelude.{cond, List, [], ◌∷◌, ◌++◌, ◌≡◌, ℕ, suc, ◌+◌, ◌*◌, ◌/◌, min, leb, length, take, drop}
+use Rattle.std.specs.declared.ops.ControlFlow.{ControlFlow}
+use Rattle.std.specs.declared.ops.ControlFlow.TheVariants.{Continue, Break}
 use Rattle.listing.specs.Lines.{total_line, too_long_line}
 use Rattle.listing.specs.Listing.{program_room, handed_lines}
 use Rattle.listing.specs.declared.filling.Progress.{Progress}
@@ -42,24 +44,24 @@ finding_space = 37
 abbrev pub item_space : ℕ
 item_space = 83 + finding_space * (65536 / width)
 
--- what a fill puts, and unless all of the listing has been put then, how far it has come
+-- what a fill puts, how far the listing has come then, and whether it goes on or all of it has been put
 pub record Portion : Type 0 where
   pub text : List ℕ
-  pub next : Option Progress
+  pub next : ControlFlow Progress Progress
 
 -- where any item fits behind the n octets that are put already
 abbrev pub if_space : ℕ → ℕ → Progress → Portion → Portion
-if_space size n p portion = cond (leb (n + item_space) size) portion (record { text = []; next = Some p })
+if_space size n p portion = cond (leb (n + item_space) size) portion (record { text = []; next = Continue p })
 
-abbrev pub all_of : List ℕ → Portion
-all_of text = record { text = text; next = None }
+abbrev pub all_of : Progress → List ℕ → Portion
+all_of p text = record { text = text; next = Break p }
 
 abbrev pub lines_then : List ℕ → Portion → Portion
 lines_then lines portion = record { text = lines ++ portion.text; next = portion.next }
 
 -- a buffer of `size` octets, n of them put already, and the items that are left: the lines of each, and the last line
 abbrev pub portion_of : ℕ → ℕ → ℕ → Progress → List Handed → Portion
-portion_of size total n p [] = if_space size n p (all_of (total_line (counts_in p) total))
+portion_of size total n p [] = if_space size n p (all_of p (total_line (counts_in p) total))
 portion_of size total n p (h ∷ hs) =
     if_space size n p (lines_then (handed_lines h) (portion_of size total (n + length (handed_lines h)) (advanced p h.item) hs))
 
@@ -70,7 +72,7 @@ items_from deck position = all_handed_over program_room (events_from deck positi
 -- "takes as much of deck; past that it prints only "deck too long"" (document 01, "The deck")
 unfoldable pub deck_portion : List ℕ → Progress → ℕ → Portion
 deck_portion deck p size =
-    cond (leb (length deck) 65536) (portion_of size (length (blocks deck)) 0 p (items_from deck p.position)) (if_space size 0 p (all_of too_long_line))
+    cond (leb (length deck) 65536) (portion_of size (length (blocks deck)) 0 p (items_from deck p.position)) (if_space size 0 p (all_of p too_long_line))
 
 -- the portion stands at the front of the buffer, and the rest of it is as it was
 pub record Filled (portion : Portion) (out : List ℕ) (r : Filling) (last : List ℕ) : Type 0 where
@@ -81,7 +83,7 @@ pub record Filled (portion : Portion) (out : List ℕ) (r : Filling) (last : Lis
 
 -- what a caller writes who fills a buffer from somewhere on, writes what was put, and goes on from there with any buffer until all is put
 pub data Writes (deck : List ℕ) : Progress → List ℕ → Type 0 where
-  ends : (p : Progress) (out last : List ℕ) (r : Filling) → Filled (deck_portion deck p (length out)) out r last → r.next ≡ None
+  ends : (p q : Progress) (out last : List ℕ) (r : Filling) → Filled (deck_portion deck p (length out)) out r last → r.next ≡ Break q
       → Writes deck p (take r.end last)
-  goes_on : (p q : Progress) (out last : List ℕ) (r : Filling) (later : List ℕ) → Filled (deck_portion deck p (length out)) out r last → r.next ≡ Some q
+  goes_on : (p q : Progress) (out last : List ℕ) (r : Filling) (later : List ℕ) → Filled (deck_portion deck p (length out)) out r last → r.next ≡ Continue q
       → Writes deck q later → Writes deck p (take r.end last ++ later)

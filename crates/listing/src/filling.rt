@@ -12,6 +12,7 @@ ghost use Rattle.listing.specs.Filling.{items_from, deck_portion, Filled};
 use crate::lines::{item_lines, too_long, total_line};
 use reader::{Counts, Item};
 use report::WIDTH;
+use std::ops::ControlFlow;
 use texts::Text;
 
 // "It lends the linter 65,536 octets of room and takes as much of deck" (document 01, "The deck").
@@ -41,7 +42,8 @@ pub struct Progress {
 #[derive(Clone, Copy)]
 pub struct Filling {
     pub end: usize,
-    pub next: Option<Progress>,
+    // how far the listing has come, and whether it goes on from there or all of it has been put
+    pub next: ControlFlow<Progress, Progress>,
 }
 
 pub fn start() -> Progress
@@ -101,7 +103,7 @@ fn fill_items(out: &mut [u8], deck: &[u8], from: Progress, room: &mut [u8]) -> F
             last_line(&mut text, p, reader::block_count(deck));
             return Filling {
                 end: text.octets().len(),
-                next: None,
+                next: ControlFlow::Break(p),
             };
         }
         item_lines(&mut text, p.position, item, room);
@@ -109,25 +111,25 @@ fn fill_items(out: &mut [u8], deck: &[u8], from: Progress, room: &mut [u8]) -> F
     }
     Filling {
         end: text.octets().len(),
-        next: Some(p),
+        next: ControlFlow::Continue(p),
     }
 }
 
 // The only line of a deck that is too long.
 fn fill_too_long(out: &mut [u8], p: Progress) -> Filling
-    ensures { Filled (if_space (length out.old) 0 p (all_of too_long_line)) out.old result out.new }
+    ensures { Filled (if_space (length out.old) 0 p (all_of p too_long_line)) out.old result out.new }
 {
     let mut text = Text::new(out);
     if !text.has_space(ITEM) {
         return Filling {
             end: 0,
-            next: Some(p),
+            next: ControlFlow::Continue(p),
         };
     }
     too_long(&mut text);
     Filling {
         end: text.octets().len(),
-        next: None,
+        next: ControlFlow::Break(p),
     }
 }
 

@@ -20,7 +20,7 @@ pub fn odd(s: &[u8], body: usize, end: usize) -> bool
 fn all_ones(s: &[u8], at: usize, end: usize) -> bool
     ensures { result ≡ all_ones (octets_from s.now at (end - at)) }
 {
-    octets::all(s, at, octets::minus(end, at), |b| b == 255)
+    octets::octets_from(s, at, octets::minus(end, at)).all(|b| b == 255)
 }
 
 // Whether the number is below 2^256 - 1.

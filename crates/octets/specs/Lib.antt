@@ -6,3 +6,4 @@ pub mod Same
 pub mod Places
 pub mod Stretches
 pub mod Copying
+pub mod Workings

@@ -1,9 +1,27 @@
 // Comparing two stretches, octet by octet or with the case of ASCII letters ignored.
-ghost use Rattle.std.specs.Prelude.{◌≡◌};
+ghost use Rattle.std.specs.Prelude.{◌≡◌, Bool, ℕ};
+ghost use Rattle.std.specs.List.{list_all, zip};
 ghost use Rattle.octets.specs.Octets.{octets_from};
 ghost use Rattle.octets.specs.Same.{same_by, exactly, lower_case};
+ghost use Rattle.octets.specs.Workings.Same.{ComputesOfTwo};
 
-use crate::stretches::all_beside;
+use crate::reading::octet_past;
+
+// Whether each of the n octets from a on in s passes the test with the one that has its place among those from b on in t.
+fn all_beside<F: Fn(u8, u8) -> bool>(
+    s: &[u8],
+    a: usize,
+    t: &[u8],
+    b: usize,
+    n: usize,
+    test: F,
+) -> bool
+    requires { (state : F) (x : _) (y : _) → F.pre state x y }
+    ensures { (passes : ℕ → ℕ → Bool) → ComputesOfTwo (F.post test) passes
+        → result ≡ list_all (λ pair. passes pair.0 pair.1) (zip (octets_from s.now a n) (octets_from t.now b n)) }
+{
+    (0..n).all(|k| test(octet_past(s, a, k), octet_past(t, b, k)))
+}
 
 // A to Z become a to z.
 pub fn lower_case(b: u8) -> u8

@@ -17,4 +17,4 @@ pub use comparing::{equals, lower_case, same, same_ignoring_case, same_stretch};
 pub use copying::copy;
 pub use places::Place;
 pub use reading::{fits, minus, number, octet, octet_past, pair, wide, within};
-pub use stretches::{all, all_beside, any};
+pub use stretches::{Stretch, octets_from};

@@ -1,39 +1,46 @@
-// What holds of each octet of a stretch, or of one of them: the test is the caller's.
-ghost use Rattle.std.specs.Prelude.{◌≡◌, Bool, ℕ};
-ghost use Rattle.std.specs.List.{list_all, list_any, zip};
+// The octets of a stretch, one after the other.
+ghost use Rattle.std.specs.Prelude.{◌≡◌};
+ghost use Rattle.std.specs.Iterator.{YieldsFirst, item_count};
 ghost use Rattle.octets.specs.Octets.{octets_from};
-ghost use Rattle.octets.specs.Stretches.{Computes, ComputesOfTwo};
+ghost use Rattle.octets.specs.Stretches.{octets_left};
 
 use crate::reading::octet_past;
 
-// Whether each of the n octets from `at` on passes the test.
-pub fn all<F: Fn(u8) -> bool>(s: &[u8], at: usize, n: usize, test: F) -> bool
-    requires { (state : F) (x : _) → F.pre state x }
-    ensures { (passes : ℕ → Bool) → Computes (F.post test) passes → result ≡ list_all passes (octets_from s.now at n) }
-{
-    (0..n).all(|k| test(octet_past(s, at, k)))
+// So many octets from a place on, and how many of them were passed.
+#[derive(Clone, Copy)]
+pub struct Stretch<'a> {
+    octets: &'a [u8],
+    at: usize,
+    len: usize,
+    passed: usize,
 }
 
-// Whether one of them does.
-pub fn any<F: Fn(u8) -> bool>(s: &[u8], at: usize, n: usize, test: F) -> bool
-    requires { (state : F) (x : _) → F.pre state x }
-    ensures { (passes : ℕ → Bool) → Computes (F.post test) passes → result ≡ list_any passes (octets_from s.now at n) }
-{
-    (0..n).any(|k| test(octet_past(s, at, k)))
+impl Iterator for Stretch<'_> {
+    type Item = u8;
+
+    ghost next_gives = { YieldsFirst octets_left };
+
+    ghost remaining = { item_count octets_left };
+
+    fn next(&mut self) -> Option<u8> {
+        if self.passed < self.len {
+            let octet = octet_past(self.octets, self.at, self.passed);
+            self.passed += 1;
+            return Some(octet);
+        }
+        None
+    }
 }
 
-// Whether each of the n octets from a on in s passes the test with the one that has its place among those from b on in t.
-pub fn all_beside<F: Fn(u8, u8) -> bool>(
-    s: &[u8],
-    a: usize,
-    t: &[u8],
-    b: usize,
-    n: usize,
-    test: F,
-) -> bool
-    requires { (state : F) (x : _) (y : _) → F.pre state x y }
-    ensures { (passes : ℕ → ℕ → Bool) → ComputesOfTwo (F.post test) passes
-        → result ≡ list_all (λ pair. passes pair.0 pair.1) (zip (octets_from s.now a n) (octets_from t.now b n)) }
+// The n octets from `at` on.
+pub fn octets_from(s: &[u8], at: usize, n: usize) -> Stretch<'_>
+    ensures whole { result ≡ record { octets = s.entry; at = at; len = n; passed = 0 } }
+    ensures left { octets_left result ≡ octets_from s.now at n }
 {
-    (0..n).all(|k| test(octet_past(s, a, k), octet_past(t, b, k)))
+    Stretch {
+        octets: s,
+        at: at,
+        len: n,
+        passed: 0,
+    }
 }

@@ -3,3 +3,4 @@ pub mod Judged
 pub mod Levels
 pub mod Slots
 pub mod Limits
+pub mod Extensions

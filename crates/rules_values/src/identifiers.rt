@@ -49,7 +49,7 @@ pub fn identifier_rules(
         (key_identifier_rows s.now (known issuer.now i).key (standing_by authority) (standing_by constraints) (standing_by subject))
         sink.old sink.new }
 {
-    let held = is_held_by(s, authority.element, issuer, i.key_id);
+    let held = is_held_by(s, authority.element, issuer, i.key_id.ok());
     let filled = is_filled(constraints.element);
     let twenty = is_twenty(subject.element);
     forms::judge_value(sink, p, 401, authority, !held);

@@ -11,7 +11,7 @@ fn is_number_from_one(s: &[u8], at: usize, n: usize) -> bool
     ensures { result ≡ is_number_from_one (octets_from s.now at n) }
 {
     let first = octets::octet(s, at);
-    (0 < n) & (!(first == b'0') & octets::all(s, at, n, |b| octets::is_digit(b)))
+    (0 < n) & (!(first == b'0') & octets::octets_from(s, at, n).all(|b| octets::is_digit(b)))
 }
 
 // Whether the n octets from `body` on are these words with such a number behind them.

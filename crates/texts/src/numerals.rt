@@ -3,6 +3,9 @@ ghost use Rattle.std.specs.Prelude.{◌≡◌};
 ghost use Rattle.texts.specs.Numerals.{decimal_of};
 ghost use Rattle.texts.specs.Workings.Numerals.{appended};
 
+// The largest record number.
+const LARGEST: u64 = 4294967295;
+
 // A number with a digit written on, if c is one and the number fits in four octets.
 fn append(number: u32, c: u8) -> Option<u32>
     ensures { result ≡ appended number c }
@@ -10,7 +13,11 @@ fn append(number: u32, c: u8) -> Option<u32>
     if !octets::is_digit(c) {
         return None;
     }
-    number.checked_mul(10)?.checked_add((c - b'0') as u32)
+    let next = 10 * (number as u64) + ((c - b'0') as u64);
+    if next > LARGEST {
+        return None;
+    }
+    Some(next as u32)
 }
 
 // The number that the digits of a text say, if it has at least one, nothing besides, and the number fits in four octets.

@@ -7,7 +7,8 @@ ghost use Rattle.texts.specs.Putting.{Grown};
 #[derive(Drop)]
 pub struct Text<'a> {
     space: &'a mut [u8],
-    len: usize,
+    // the place of the buffer that the next octet goes to: a caller may set it to any
+    pub len: usize,
 }
 
 impl<'a> Text<'a> {
@@ -43,8 +44,8 @@ impl<'a> Text<'a> {
     pub fn word(&mut self, text: &[u8])
         ensures { Grown text.now self.old self.new }
     {
-        for b in text {
-            self.put(*b);
+        for i in 0..text.len() {
+            self.put(text[i]);
         }
     }
 

@@ -23,7 +23,7 @@ fn content(s: &[u8], body: usize, n: usize, k: usize) -> u8
 fn digits_first(s: &[u8], body: usize, n: usize, digits: usize) -> bool
     ensures { result ≡ digits_first digits (octets_from s.now body n) }
 {
-    (digits <= n) & octets::all(s, body, digits, |b| octets::is_digit(b))
+    (digits <= n) & octets::octets_from(s, body, digits).all(|b| octets::is_digit(b))
 }
 
 fn digits_and_z(s: &[u8], body: usize, n: usize, digits: u8) -> bool

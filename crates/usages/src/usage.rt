@@ -66,7 +66,7 @@ fn other_in_first(bits: u8, allowed: u8) -> bool
 fn any_later(s: &[u8], body: usize, n: usize) -> bool
     ensures { result ≡ any_set (octets_from s.now (body + 2) (n - 2)) }
 {
-    octets::any(s, body.saturating_add(2), octets::minus(n, 2), |b| b != 0)
+    octets::octets_from(s, body.saturating_add(2), octets::minus(n, 2)).any(|b| b != 0)
 }
 
 // Whether the BIT STRING with n contents octets from place `body` on has a bit that may not be set.

@@ -8,14 +8,13 @@ use mathlib.Core.Path.{◌≡◌, refl, ap, ◌∙◌}
 use mathlib.Core.List.{List}
 use mathlib.Core.Bool.{Bool, true, false, not, ◌&&◌, ◌||◌, false≢true}
 use Prim.Native.Nat.{ℕ, ◌-◌}
-use Rattle.std.specs.Prelude.{Option}
-use Rattle.std.specs.Bool.{then_some}
+use Rattle.std.specs.Prelude.{Result}
 use lib.Dec.{eqb}
 use Rattle.certificate.specs.Fields.{list_after, certificate_of}
 use Rattle.certificate.specs.Key.{kind_of, key_of}
 use Rattle.certificate.specs.Extensions.{extension_of}
 use Rattle.certificate.specs.Slots.{first_in_slot, is_good, slot_from}
-use Rattle.certificate.specs.Issuer.{key_id_in, issuer_of}
+use Rattle.certificate.specs.Issuer.{key_id_in, element_in, issuer_of}
 use Rattle.certificate.specs.declared.fields.Certificate.{Certificate}
 use Rattle.certificate.specs.declared.key.KeyKind.{KeyKind}
 use Rattle.certificate.specs.declared.key.Key.{Key}
@@ -91,14 +90,13 @@ module _ (s : List ℕ) where
       let good_is : good ≡ is_good s slot h (extension_of s h).value = g ∙ (λ j. is_good s slot h (x j).value) in
       λ j. record { place = h; critical = (x j).critical; holder = (x j).value; element = element_is j; good = good_is j }
 
-  pub issuer_law : (c : Certificate) (place : Head) (v : Slot) (key : Option Head) → c ≡ certificate_of s
+  pub issuer_law : (c : Certificate) (place : Head) (v : Slot) (key : Result Head Head) → c ≡ certificate_of s
       → place ≡ first_in_slot s c.extensions.end (members_in s c.extensions) 3 → v ≡ slot_from s 3 place
-      → key ≡ then_some v.good v.element → ◌≡◌ {A = Issuer} (record { name = c.subject; key_id = key }) (issuer_of s)
+      → key ≡ element_in v → ◌≡◌ {A = Issuer} (record { name = c.subject; key_id = key }) (issuer_of s)
   unfolding issuer_of key_id_in
   issuer_law c place v key p f g h =
       let place_is : place ≡ first_in_slot s (certificate_of s).extensions.end (members_in s (certificate_of s).extensions) 3 =
       f ∙ (λ j. first_in_slot s (p j).extensions.end (members_in s (p j).extensions) 3) in
       let v_is : v ≡ key_id_in s (certificate_of s).extensions = g ∙ ap (slot_from s 3) place_is in
-      let key_is : key ≡ then_some (key_id_in s (certificate_of s).extensions).good (key_id_in s (certificate_of s).extensions).element =
-      h ∙ (λ j. then_some (v_is j).good (v_is j).element) in
+      let key_is : key ≡ element_in (key_id_in s (certificate_of s).extensions) = h ∙ (λ j. element_in (v_is j)) in
       λ j. record { name = (p j).subject; key_id = key_is j }

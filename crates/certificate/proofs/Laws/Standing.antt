@@ -11,12 +11,13 @@ use mathlib.Core.Bool.{Bool, true, false, cond, false≢true}
 use Prim.Native.Nat.{ℕ, zero, suc, ◌+◌, ◌-◌, ◌<◌}
 use native.Mathlib.Omega.{arith}
 use lib.ListN.{get_or}
-use Rattle.std.specs.Bool.{then_some}
+use Rattle.std.specs.Prelude.{Ok, Err}
+use Rattle.std.specs.Result.{result_ok}
 use lib.Dec.{eqb}
 use borrow.Author.Tests.{lt-leb, ne_eqb, eqb-true, eqb-false}
 use Rattle.certificate.specs.Extensions.{identifier_of, extension_of, identifiers, slot_for, slot_of}
 use Rattle.certificate.specs.Fields.{certificate_of}
-use Rattle.certificate.specs.Issuer.{key_identifier_in, known_of, key_id_in, issuer_of, key_identifier_of, known}
+use Rattle.certificate.specs.Issuer.{key_identifier_in, known_of, key_id_in, element_in, issuer_of, key_identifier_of, known}
 use Rattle.certificate.specs.Slots.{slot_count, first_in_slot, slot_from, empty_slot, slots_of}
 use Rattle.certificate.specs.Standing.{Standing, by_value, first_with, identifier_at, standing_in, over_table, standing_at, extension_by, standing_by}
 use Rattle.certificate.specs.declared.slots.Slot.{Slot}
@@ -96,10 +97,10 @@ table_at f (suc k) l m =
 
 -- ---- the issuer's
 
-key_by : (octets : List ℕ) (v : Slot) → key_identifier_of octets (then_some v.good v.element) ≡ key_identifier_in octets (standing_by v)
+key_by : (octets : List ℕ) (v : Slot) → key_identifier_of octets (result_ok (element_in v)) ≡ key_identifier_in octets (standing_by v)
 key_by octets v = go v.good (is_empty v.place)
   where
-    go : (g e : Bool) → key_identifier_of octets (then_some g v.element)
+    go : (g e : Bool) → key_identifier_of octets (result_ok (cond g (Ok v.element) (Err v.element)))
         ≡ key_identifier_in octets (cond g (Standing.good (extension_by v) v.element) (cond e Standing.missing (Standing.bad (extension_by v))))
     go true e = refl
     go false true = refl

@@ -19,7 +19,8 @@ use lib.ListN.{length, take, drop, length-append}
 use lib.Seq.{sets, sets-eq, length-sets, take_at}
 use lib.Dec.{leb}
 use borrow.Author.Tests.{leb-true, le-leb, lt-leb}
-use Rattle.std.specs.Prelude.{Option, Some, None}
+use Rattle.std.specs.declared.ops.ControlFlow.{ControlFlow}
+use Rattle.std.specs.declared.ops.ControlFlow.TheVariants.{Continue, Break}
 use Rattle.listing.specs.Lines.{total_line, too_long_line}
 use Rattle.listing.specs.Listing.{program_room, handed_lines, item_lines}
 use Rattle.listing.specs.Filling.{advanced, counts_in, item_space, Portion, if_space, all_of, lines_then, portion_of, items_from, deck_portion, Filled}
@@ -62,12 +63,12 @@ module _ (deck : List ℕ) (i : ℕ) where
 
 module _ (size total n : ℕ) (p : Progress) where
   pub portion_short : (hs : List Handed) → leb (n + item_space) size ≡ false
-      → portion_of size total n p hs ≡ record { text = []; next = Some p }
+      → portion_of size total n p hs ≡ record { text = []; next = Continue p }
   portion_short [] f = rw f
   portion_short (h ∷ hs) f = rw f
 
   module _ (t : leb (n + item_space) size ≡ true) where
-    pub portion_last : (hs : List Handed) → hs ≡ [] → portion_of size total n p hs ≡ all_of (total_line (counts_in p) total)
+    pub portion_last : (hs : List Handed) → hs ≡ [] → portion_of size total n p hs ≡ all_of p (total_line (counts_in p) total)
     portion_last hs e = rw (e, t)
 
     pub portion_next : (h : Handed) (hs all : List Handed) → all ≡ h ∷ hs
@@ -136,16 +137,16 @@ module _ {all : Portion} {first : List ℕ} where
       }
 
   -- where a text that fits is all that is left
-  pub left_last : {text : List ℕ} {n m : ℕ} {out last : List ℕ} → Left all first (all_of text) n out
-      → Spelled text n out m last → n + length text ≤ length out → Filled all first (record { end = m; next = None }) last
-  left_last {text} {n} {m} {out} {last} l s h =
+  pub left_last : {p : Progress} {text : List ℕ} {n m : ℕ} {out last : List ℕ} → Left all first (all_of p text) n out
+      → Spelled text n out m last → n + length text ≤ length out → Filled all first (record { end = m; next = Break p }) last
+  left_last {p} {text} {n} {m} {out} {last} l s h =
       left_stop
-      (left_lines {lines = text} {rest = all_of []}
-      (left_as (ap (λ (t : List ℕ). all_of t) (sym (append-nil text))) l) s h).1
+      (left_lines {lines = text} {rest = all_of p []}
+      (left_as (ap (λ (t : List ℕ). all_of p t) (sym (append-nil text))) l) s h).1
       refl
 
   -- what was put is what the text has, and the buffer is as the text leaves it
-  pub filled_back : (text : Text) {next : Option Progress} {octets last : List ℕ} → Filled all first (record { end = text.len; next = next }) text.space.now
+  pub filled_back : (text : Text) {next : ControlFlow Progress Progress} {octets last : List ℕ} → Filled all first (record { end = text.len; next = next }) text.space.now
       → octets ≡ take text.len text.space.now → last ≡ text.space.now → Filled all first (record { end = length octets; next = next }) last
   filled_back text {next} {octets} f e back =
       let long : text.len ≡ length all.text = ap (λ (r : Filling). r.end) f.told in
@@ -224,7 +225,7 @@ module _ {all : Portion} {first out : List ℕ} {n : ℕ} (total : ℕ) (deck : 
   -- the deck is at its end, and the last line is put
   pub step_ends : {m counted : ℕ} {next : Item} {left last : List ℕ} → Stepped deck p.position room next left → item_blocks next ≡ 0
       → counted ≡ total → length (total_line (counts_in p) counted) ≤ item_space → Spelled (total_line (counts_in p) counted) n out m last
-      → Filled all first (record { end = m; next = None }) last
+      → Filled all first (record { end = m; next = Break p }) last
   step_ends {m} {last = last} s none e long put =
       let past = item_past deck p.position room (sym (ap item_blocks s.told) ∙ none) in
       left_last
@@ -237,7 +238,7 @@ module _ {all : Portion} {first out : List ℕ} {n : ℕ} (total : ℕ) (deck : 
 module _ {all : Portion} {first out : List ℕ} {n : ℕ} (total : ℕ) (p : Progress) (hs : List Handed) where
   -- no other item is sure to fit
   pub fill_stops : leb (n + item_space) (length out) ≡ false → Left all first (portion_of (length first) total n p hs) n out
-      → Filled all first (record { end = n; next = Some p }) out
+      → Filled all first (record { end = n; next = Continue p }) out
   fill_stops f rest =
       let short : leb (n + item_space) (length first) ≡ false = ap (λ (size : ℕ). leb (n + item_space) size) (sym rest.same_long) ∙ f in
       left_stop (left_as (portion_short (length first) total n p hs short) rest) refl
@@ -245,27 +246,27 @@ module _ {all : Portion} {first out : List ℕ} {n : ℕ} (total : ℕ) (p : Pro
 -- a single text, in a buffer that is lent: where there is space for any item, and where not
 module _ (p : Progress) (line : List ℕ) (out : MutBor (List ℕ)) {text : Text} (e : text ≡ record { space = out; len = 0 }) where
   abbrev single : Portion
-  single = if_space (length out.now) 0 p (all_of line)
+  single = if_space (length out.now) 0 p (all_of p line)
 
   pub text_put : leb (text.len + item_space) (length text.space.now) ≡ true → length line ≤ item_space → {last : Text} → Grown line text last
-      → Filled single out.now (record { end = last.len; next = None }) last.space.now
+      → Filled single out.now (record { end = last.len; next = Break p }) last.space.now
   text_put t long put =
       let fits : leb (0 + item_space) (length out.now) ≡ true = rw e at t in
       let space : 0 + item_space ≤ length out.now = leb-true (0 + item_space) (length out.now) fits in
-      let all : single ≡ all_of line = rw fits in
+      let all : single ≡ all_of p line = rw fits in
       left_last (left_as all (left_start single out.now)) (rw e at put.spelled) (omega (arith, space, long))
 
   pub text_waits : leb (text.len + item_space) (length text.space.now) ≡ false → {last : List ℕ} → last ≡ text.space.now
-      → Filled single out.now (record { end = 0; next = Some p }) last
+      → Filled single out.now (record { end = 0; next = Continue p }) last
   text_waits f back =
       let full : leb (0 + item_space) (length out.now) ≡ false = rw e at f in
-      let none : single ≡ record { text = []; next = Some p } = rw full in
+      let none : single ≡ record { text = []; next = Continue p } = rw full in
       rw (back, e) (left_stop (left_as none (left_start single out.now)) refl)
 
 -- ---- a deck that is too long, and one that is not
 
 module _ (deck : List ℕ) (p : Progress) {out : List ℕ} {r : Filling} {last : List ℕ} where
-  pub deck_long : 65536 < length deck → Filled (if_space (length out) 0 p (all_of too_long_line)) out r last
+  pub deck_long : 65536 < length deck → Filled (if_space (length out) 0 p (all_of p too_long_line)) out r last
       → Filled (deck_portion deck p (length out)) out r last
   unfolding deck_portion
   deck_long h f = rw (lt-leb (length deck) 65536 h) f

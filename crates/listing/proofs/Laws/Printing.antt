@@ -14,7 +14,8 @@ use lib.ListN.{length, take, drop, length-append}
 use lib.Seq.{take_at}
 use lib.Dec.{leb}
 use borrow.Author.Tests.{leb-true, le-leb}
-use Rattle.std.specs.Prelude.{Option, Some, None}
+use Rattle.std.specs.declared.ops.ControlFlow.{ControlFlow}
+use Rattle.std.specs.declared.ops.ControlFlow.TheVariants.{Continue, Break}
 use Rattle.listing.specs.Lines.{total_line, too_long_line}
 use Rattle.listing.specs.Listing.{program_room, handed_lines, lines_of, listing_of, printed}
 use Rattle.listing.specs.Filling.{nothing_listed, one_more, advanced, counts_in, item_space, Portion, if_space, all_of, portion_of, items_from, deck_portion, Filled, Writes, ends, goes_on}
@@ -42,13 +43,13 @@ unfoldable listed_from : List ℕ → Progress → List ℕ
 listed_from deck p = cond (leb (length deck) 65536) (remaining (length (blocks deck)) p (items_from deck p.position)) too_long_line
 
 -- what is listed from where the listing goes on, or nothing
-abbrev onward : (Progress → List ℕ) → Option Progress → List ℕ
-onward later None = []
-onward later (Some p) = later p
+abbrev onward : (Progress → List ℕ) → ControlFlow Progress Progress → List ℕ
+onward later (Break p) = []
+onward later (Continue p) = later p
 
-onward_as : {later other : Progress → List ℕ} → ((p : Progress) → later p ≡ other p) → (next : Option Progress) → onward later next ≡ onward other next
-onward_as e None = refl
-onward_as e (Some p) = e p
+onward_as : {later other : Progress → List ℕ} → ((p : Progress) → later p ≡ other p) → (next : ControlFlow Progress Progress) → onward later next ≡ onward other next
+onward_as e (Break p) = refl
+onward_as e (Continue p) = e p
 
 -- ---- what is handed over from a position on, taken apart
 
@@ -120,7 +121,7 @@ deck_covers deck p size = go (leb (length deck) 65536) refl
     go false t = rw t (by_space (leb (0 + item_space) size) refl)
       where
         by_space : (b : Bool) → leb (0 + item_space) size ≡ b
-            → (if_space size 0 p (all_of too_long_line)).text ++ onward (listed_from deck) (if_space size 0 p (all_of too_long_line)).next ≡ too_long_line
+            → (if_space size 0 p (all_of p too_long_line)).text ++ onward (listed_from deck) (if_space size 0 p (all_of p too_long_line)).next ≡ too_long_line
         by_space true s = rw s (append-nil too_long_line)
         by_space false s = rw (s, t)
 
@@ -190,16 +191,16 @@ module _ {portion : Portion} {out last : List ℕ} {r : Filling} (f : Filled por
   put_next = ap (λ (x : Filling). x.next) f.told
 
 writes_listed : (deck : List ℕ) (p : Progress) (text : List ℕ) → Writes deck p text → text ≡ listed_from deck p
-writes_listed deck p text (ends _ out last r f d) =
+writes_listed deck p text (ends _ q out last r f d) =
     let x : Portion = deck_portion deck p (length out) in
     put_front f
     ∙ sym (append-nil x.text)
-    ∙ ap (λ (next : Option Progress). x.text ++ onward (listed_from deck) next) (sym d ∙ put_next f)
+    ∙ ap (λ (next : ControlFlow Progress Progress). x.text ++ onward (listed_from deck) next) (sym d ∙ put_next f)
     ∙ deck_covers deck p (length out)
 writes_listed deck p text (goes_on _ q out last r later f d w) =
     let x : Portion = deck_portion deck p (length out) in
     ap₂ (λ (a b : List ℕ). a ++ b) (put_front f) (writes_listed deck q later w)
-    ∙ ap (λ (next : Option Progress). x.text ++ onward (listed_from deck) next) (sym d ∙ put_next f)
+    ∙ ap (λ (next : ControlFlow Progress Progress). x.text ++ onward (listed_from deck) next) (sym d ∙ put_next f)
     ∙ deck_covers deck p (length out)
 
 pub writes_printed : (deck text : List ℕ) → Writes deck nothing_listed text → text ≡ printed deck
@@ -211,17 +212,17 @@ one_filling f g = (f.told ∙ sym g.told, f.octets ∙ sym g.octets)
 
 -- ---- a fill moves on
 
-none_some : (q : Progress) → ◌≡◌ {A = Option Progress} None (Some q) → ⊥
-none_some q e = cc
+break_continue : (p q : Progress) → ◌≡◌ {A = ControlFlow Progress Progress} (Break p) (Continue q) → ⊥
+break_continue p q e = cc
 
 -- it goes on from a position no lower than this one
-abbrev FromOn : ℕ → Option Progress → Type 0
-FromOn position None = Unit {0}
-FromOn position (Some q) = position ≤ q.position
+abbrev FromOn : ℕ → ControlFlow Progress Progress → Type 0
+FromOn position (Break q) = Unit {0}
+FromOn position (Continue q) = position ≤ q.position
 
-from_on : (i j : ℕ) → i ≤ j → (next : Option Progress) → FromOn j next → FromOn i next
-from_on i j h None l = tt
-from_on i j h (Some q) l = omega (arith, h, l)
+from_on : (i j : ℕ) → i ≤ j → (next : ControlFlow Progress Progress) → FromOn j next → FromOn i next
+from_on i j h (Break q) l = tt
+from_on i j h (Continue q) l = omega (arith, h, l)
 
 module _ (size total : ℕ) where
   goes_forward : (hs : List Handed) (n : ℕ) (p : Progress) → FromOn p.position (portion_of size total n p hs).next
@@ -247,25 +248,25 @@ module _ (deck : List ℕ) (p : Progress) (size : ℕ) (space : item_space ≤ s
   fits = le-leb (0 + item_space) size (omega (arith, space))
 
   portion_moves : (hs : List Handed) → hs ≡ items_from deck p.position → (q : Progress)
-      → (portion_of size (length (blocks deck)) 0 p hs).next ≡ Some q → Moves deck p.position q.position
-  portion_moves [] e q d = absurd (none_some q (rw fits at d))
+      → (portion_of size (length (blocks deck)) 0 p hs).next ≡ Continue q → Moves deck p.position q.position
+  portion_moves [] e q d = absurd (break_continue p q (rw fits at d))
   portion_moves (h ∷ hs) e q d =
       let next : Progress = advanced p h.item in
       let later : next.position ≤ q.position =
-      subst (λ (x : Option Progress). FromOn next.position x) (rw fits at d) (goes_forward size (length (blocks deck)) hs (0 + length (handed_lines h)) next) in
+      subst (λ (x : ControlFlow Progress Progress). FromOn next.position x) (rw fits at d) (goes_forward size (length (blocks deck)) hs (0 + length (handed_lines h)) next) in
       record {
         on = omega (arith, later, advanced_position p h.item, first_moves deck p.position h hs e);
         inside = before_end deck p.position h hs e;
       }
 
-  deck_moves : (q : Progress) → (deck_portion deck p size).next ≡ Some q → Moves deck p.position q.position
+  deck_moves : (q : Progress) → (deck_portion deck p size).next ≡ Continue q → Moves deck p.position q.position
   unfolding deck_portion
   deck_moves q = go (leb (length deck) 65536) refl
     where
-      go : (b : Bool) → leb (length deck) 65536 ≡ b → (deck_portion deck p size).next ≡ Some q → Moves deck p.position q.position
+      go : (b : Bool) → leb (length deck) 65536 ≡ b → (deck_portion deck p size).next ≡ Continue q → Moves deck p.position q.position
       go true t d = portion_moves (items_from deck p.position) refl q (rw t at d)
-      go false t d = absurd (none_some q (rw (t, fits) at d))
+      go false t d = absurd (break_continue p q (rw (t, fits) at d))
 
 pub fill_moves : (deck : List ℕ) (p : Progress) (out : List ℕ) {r : Filling} {last : List ℕ} {q : Progress} → item_space ≤ length out
-    → Filled (deck_portion deck p (length out)) out r last → r.next ≡ Some q → Moves deck p.position q.position
+    → Filled (deck_portion deck p (length out)) out r last → r.next ≡ Continue q → Moves deck p.position q.position
 fill_moves deck p out {q = q} space f d = deck_moves deck p (length out) space q (sym (put_next f) ∙ d)

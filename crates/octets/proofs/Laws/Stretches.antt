@@ -1,5 +1,6 @@
--- Tests of the octets of a stretch, said of their places.
---     all_stretch, any_stretch     a test of each place, or of one, from `at` on
+-- A walk along the octets of a stretch, and tests of them.
+--     octets_front                 what it has not come to yet, opened at its front, where the first is x
+--     stretch_walked               it yields those that it has not come to yet
 --     beside_stretch               a test of the places of two stretches
 --     stretch_far                  a stretch from a place that no usize counts to is one from the largest that it counts to
 --     digits_all, one_of_any       definitions that such tests are
@@ -7,41 +8,29 @@
 use mathlib.Core.Path.{◌≡◌, refl, sym, ap, ap₂, ◌∙◌}
 use mathlib.Core.Bool.{Bool, true, false, ◌&&◌, ◌||◌}
 use mathlib.Core.List.{List, [], ◌∷◌}
-use Prim.Native.Nat.{ℕ, zero, suc, ◌+◌, ◌≤◌, min}
+use Prim.Native.Nat.{ℕ, zero, suc, ◌+◌, ◌-◌, ◌≤◌, ◌<◌, min}
 use native.Mathlib.Nat.{add-zero, min-eq_left}
 use native.Mathlib.Omega.{arith}
 use lib.Dec.{leb, eqb}
 use lib.ListN.{length}
 use borrow.Author.Tests.{leb-true, leb-false}
 use Rattle.std.specs.List.{list_all, list_any, zip, range_with_len}
+use Rattle.std.specs.Iterator.{YieldsFirst}
+use Rattle.std.proofs.lemmas.Iterator.{YieldsList}
+use Rattle.std.proofs.lemmas.Iterator.Consumers.{YieldsList-from_first}
 use Rattle.octets.specs.Octets.{octet_at, octets_from, is_one_of}
 use Rattle.octets.specs.Characters.{is_digit, are_digits}
 use Rattle.octets.specs.Numbers.{largest}
-use Rattle.octets.proofs.Laws.Octets.{past}
+use Rattle.octets.specs.Stretches.{octets_left}
+use Rattle.octets.specs.declared.stretches.Stretch.{Stretch}
+use Rattle.octets.proofs.Laws.Octets.{past, octets_next}
 
-all_by : (passes : ℕ → Bool) (s : List ℕ) (at i n : ℕ)
-    → list_all (λ k. passes (octet_at s (at + k))) (range_with_len i n) ≡ list_all passes (octets_from s (at + i) n)
-unfolding octets_from
-all_by passes s at i zero = refl
-all_by passes s at i (suc n) =
-    let e : at + (i + 1) ≡ at + i + 1 = omega arith in
-    ap (λ b. passes (octet_at s (at + i)) && b) (all_by passes s at (i + 1) n ∙ ap (λ k. list_all passes (octets_from s k n)) e)
+pub octets_front : (s : List ℕ) (a n k x : ℕ) → k < n → x ≡ octet_at s (a + k)
+    → octets_from s (a + k) (n - k) ≡ x ∷ octets_from s (a + (k + 1)) (n - (k + 1))
+octets_front s a n k x h e = octets_next s a n k h ∙ ap (λ y. y ∷ octets_from s (a + (k + 1)) (n - (k + 1))) (sym e)
 
-pub all_stretch : (passes : ℕ → Bool) (s : List ℕ) (at n : ℕ)
-    → list_all (λ k. passes (octet_at s (at + k))) (range_with_len 0 n) ≡ list_all passes (octets_from s at n)
-all_stretch passes s at n = all_by passes s at 0 n ∙ ap (λ k. list_all passes (octets_from s k n)) (add-zero at)
-
-any_by : (passes : ℕ → Bool) (s : List ℕ) (at i n : ℕ)
-    → list_any (λ k. passes (octet_at s (at + k))) (range_with_len i n) ≡ list_any passes (octets_from s (at + i) n)
-unfolding octets_from
-any_by passes s at i zero = refl
-any_by passes s at i (suc n) =
-    let e : at + (i + 1) ≡ at + i + 1 = omega arith in
-    ap (λ b. passes (octet_at s (at + i)) || b) (any_by passes s at (i + 1) n ∙ ap (λ k. list_any passes (octets_from s k n)) e)
-
-pub any_stretch : (passes : ℕ → Bool) (s : List ℕ) (at n : ℕ)
-    → list_any (λ k. passes (octet_at s (at + k))) (range_with_len 0 n) ≡ list_any passes (octets_from s at n)
-any_stretch passes s at n = any_by passes s at 0 n ∙ ap (λ k. list_any passes (octets_from s k n)) (add-zero at)
+pub stretch_walked : (walk : Stretch) {bs : List ℕ} → octets_left walk ≡ bs → YieldsList (YieldsFirst octets_left) (λ b. b) walk bs
+stretch_walked walk {bs} e = YieldsList-from_first (λ b. b) octets_left bs e
 
 beside_by : (passes : ℕ → ℕ → Bool) (s t : List ℕ) (a b i n : ℕ)
     → list_all (λ k. passes (octet_at s (a + k)) (octet_at t (b + k))) (range_with_len i n)

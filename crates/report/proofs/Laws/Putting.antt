@@ -5,16 +5,18 @@
 --     put_noted, put_not             it is put, or not, by a test
 --     nothing                        no entries
 --     _⨾_                            entries, and then others
+--     room_kept                      the room stays as long as it was
 --     Rest                           loops: what is still to be put, against what was to be put at the start
 --     rest_start, rest_step, rest_last, rest_end
 -- Assumes nothing.
-use mathlib.Core.Path.{◌≡◌, refl, sym, subst, ap₂, ◌∙◌}
+use mathlib.Core.Path.{◌≡◌, refl, sym, ap, subst, ap₂, ◌∙◌}
 use mathlib.Core.List.{List, [], ◌∷◌, ◌++◌}
-use mathlib.Core.Bool.{Bool, true, false}
+use mathlib.Core.Bool.{Bool, true, false, cond}
 use Prim.Native.Nat.{ℕ, ◌+◌, ◌*◌, ◌/◌, ◌≤◌, ◌<◌, ◌^◌}
 use native.Mathlib.Omega.{arith}
 use lib.ListN.{length}
-use lib.Seq.{sets}
+use lib.Seq.{sets, length-sets}
+use lib.Dec.{leb}
 use borrow.Author.Tests.{lt-ltb, le-ltb, le-leb, lt-leb}
 use Rattle.report.specs.declared.sink.Entry.{Entry}
 use Rattle.report.specs.Entries.{width, entry_octets, entry_at, noted}
@@ -104,6 +106,24 @@ pub ◌⨾◌ : {es fs : List Entry} {n m r : ℕ} {a b d : List ℕ} → Put es
     }
 
 infixr 20 ◌⨾◌
+-- ---- the room
+
+one_kept : (e : Entry) (n : ℕ) (room : List ℕ) → length (put_one e n room) ≡ length room
+unfolding put_one
+one_kept e n room = go (leb (width * n + width) (length room))
+  where
+    go : (fits : Bool) → length (cond fits (sets room (width * n) (entry_octets e)) room) ≡ length room
+    go true = length-sets room (width * n) (entry_octets e)
+    go false = refl
+
+all_kept : (es : List Entry) (n : ℕ) (room : List ℕ) → length (put_all es n room) ≡ length room
+unfolding put_all
+all_kept [] n room = refl
+all_kept (e ∷ es) n room = all_kept es (tick n) (put_one e n room) ∙ one_kept e n room
+
+pub room_kept : {es : List Entry} {n r : ℕ} {room last : List ℕ} → Put es n room r last → length last ≡ length room
+room_kept {es} {n} {r} {room} p = ap length p.bytes ∙ all_kept es n room
+
 -- ---- loops
 
 -- putting es into room with n entries ends as putting `all` into the room at the start, room₀ with n₀ entries

@@ -9,11 +9,10 @@
 use mathlib.Core.Path.{◌≡◌, refl}
 use mathlib.Core.List.{List, [], ◌∷◌}
 use mathlib.Core.Bool.{Bool, true, false, ◌&&◌}
-use Prim.Native.Nat.{ℕ, suc, ◌+◌, ◌*◌, ◌^◌, ◌≤◌, ◌<◌}
+use Prim.Native.Nat.{ℕ, suc, ◌+◌, ◌*◌, ◌≤◌, ◌<◌}
 use native.Mathlib.Numerals.{add-one}
 use native.Mathlib.Omega.{arith}
-use Rattle.std.specs.Prelude.{◌==◌, Option, Some, None}
-use Rattle.std.specs.Option.{SomeIff}
+use Rattle.std.specs.Prelude.{◌==◌, Some, None}
 use Rattle.std.specs.Bool.{then_some}
 use lib.Dec.{leb}
 use lib.ListN.{length, get_or, drop, drop_of_length-le}
@@ -38,13 +37,9 @@ module _ (n c : ℕ) where
   unfolding appended
   append_large e l = rw (e, lt-leb (10 * n + digit_of c) largest_number l)
 
-  pub append_digit : is_digit c ≡ true → (r : Option ℕ) → SomeIff r (n * 10 + digit_of c < 2 ^ 32) (n * 10 + digit_of c) → r ≡ appended n c
+  pub append_digit : is_digit c ≡ true → 10 * n + digit_of c ≤ largest_number → Some (10 * n + digit_of c) ≡ appended n c
   unfolding appended
-  append_digit e None f = append_large e (omega (arith, f))
-  append_digit e (Some m) (l, v) =
-      let small : 10 * n + digit_of c ≤ largest_number = omega arith in
-      let same : m ≡ 10 * n + digit_of c = omega arith in
-      rw (e, le-leb (10 * n + digit_of c) largest_number small, same)
+  append_digit e l = rw (e, le-leb (10 * n + digit_of c) largest_number l)
 
   pub record Taken (m : ℕ) : Type 0 where
     pub digit : is_digit c ≡ true

@@ -3,7 +3,7 @@
 --     put_nothing, _⨾_     no text; one text behind the other
 --     put_whole            where the buffer is large enough the text stands at its place, and all else is as it was
 --     put_inside           the place behind a text is in the buffer, if the place before it is
---     grown_nothing, _then_, grown_next     the same of texts that grow: no octets, one behind the other, and octet by octet
+--     grown_nothing, _then_, grown_next, grown_all     the same of texts that grow: no octets, one behind the other, octet by octet, and all of them
 --     one_answer, one_text     any two answers and buffers that the contract of such a function allows coincide
 -- Assumes nothing.
 use mathlib.Core.Path.{◌≡◌, refl, sym, ap, ◌∙◌}
@@ -13,7 +13,7 @@ use Prim.Native.Nat.{ℕ, suc, ◌+◌, ◌≤◌, ◌<◌, min, max}
 use native.Mathlib.Numerals.{add-one}
 use native.Mathlib.Omega.{arith}
 use lib.ListN.{length, get_or, set, take, drop, length-set, length-append}
-use lib.Seq.{sets, sets-eq, set_out, length-sets, take-suc}
+use lib.Seq.{sets, sets-eq, set_out, length-sets, take-suc, take_all}
 use lib.Dec.{ltb}
 use borrow.Author.Tests.{ltb-true, ltb-false}
 use Rattle.texts.specs.Putting.{place_after, buffer_after, Spelled, Grown}
@@ -100,6 +100,9 @@ module _ {us vs : List ℕ} {t u v : Text} where
 pub grown_next : (text : List ℕ) (i : ℕ) {t u v : Text} → i < length text → Grown (take i text) t u → Grown (get_or text i 0 ∷ []) u v
     → Grown (take (i + 1) text) t v
 grown_next text i h p q = rw (add-one i, take-suc text i 0 h) (p then q)
+
+pub grown_all : (text : List ℕ) (i : ℕ) {t u : Text} → length text ≤ i → Grown (take i text) t u → Grown text t u
+grown_all text i h p = rw (take_all i text h) at p
 
 pub one_text : {bs : List ℕ} {t u v : Text} → Grown bs t u → Grown bs t v → (u.len ≡ v.len) × (u.space.now ≡ v.space.now)
 one_text p q = one_answer p.spelled q.spelled

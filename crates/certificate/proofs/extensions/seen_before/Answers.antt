@@ -11,5 +11,5 @@ pub returns : goal.returns
 unfolding seen_before
 returns c =
     let a = c.args in
-    any_from_yields_List (λ e. same_identifier a.s.now e a.h) _ _ c.any.result c.any.ensures.ran (walked _ c.children_of.ensures)
+    any_from_yields_List (λ e. same_identifier a.s.now e a.h) _ _ c.any.result c.any.ensures.ran (walked _ c.children_of.ensures.left)
     (λ x b q k. search (rules, tests)) ∙ any_is (λ e. same_identifier a.s.now e a.h) _

@@ -4,4 +4,4 @@ use Rattle.certificate.proofs.issuer.read_issuer.Goals as goal
 
 pub returns : goal.returns
 returns c =
-    issuer_law c.args.i.now _ _ _ _ c.read-certificate.ensures c.first_in_slot-place.ensures c.slot_from-slot.ensures c.then_some.ensures
+    issuer_law c.args.i.now _ _ _ _ c.read-certificate.ensures c.first_in_slot-place.ensures c.slot_from-slot.ensures c.element_in.ensures

@@ -8,7 +8,7 @@ use Rattle.certificate.proofs.Laws.Slots.{unread, seen_none, seen_next, seen_all
 use Rattle.certificate.proofs.slots.first_extensions.Goals as goal
 
 pub loop-e-init : goal.loop-e-init
-loop-e-init c = seen_none _ _ _ _ c.missing-none.ensures (ap children_left c.into_iter-e-iterator.ensures.into_iter_gives ∙ c.members_in-e-items.ensures)
+loop-e-init c = seen_none _ _ _ _ c.missing-none.ensures (ap children_left c.into_iter-e-iterator.ensures.into_iter_gives ∙ c.members_in-e-items.ensures.left)
 
 pub offset_bounds-firsts-slot : goal.offset_bounds-firsts-slot
 offset_bounds-firsts-slot c =

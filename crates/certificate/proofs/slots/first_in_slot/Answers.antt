@@ -13,5 +13,5 @@ unfolding first_in_slot
 returns c =
     let a = c.args in
     rw (c.unwrap_or.ensures, c.missing.ensures) (found (λ h. eqb (slot_of a.s.now h) a.slot) a.list.end _ c.find.result
-    (find_from_yields_List (λ h. eqb (slot_of a.s.now h) a.slot) _ _ c.find.result c.find.ensures.ran (walked _ c.members_in.ensures)
+    (find_from_yields_List (λ h. eqb (slot_of a.s.now h) a.slot) _ _ c.find.result c.find.ensures.ran (walked _ c.members_in.ensures.left)
     (λ x b q k. search (rules, tests))))

@@ -2,6 +2,6 @@ use mathlib.Core.Path.{refl}
 use Rattle.der.specs.Children.{children_left}
 use Rattle.der.proofs.children.children_of.Goals as goal
 
-pub returns : goal.returns
+pub returns-clause-left : goal.returns-clause-left
 unfolding children_left
-returns c = refl
+returns-clause-left c = refl

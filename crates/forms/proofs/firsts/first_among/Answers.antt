@@ -10,5 +10,5 @@ pub returns : goal.returns
 returns c =
     let a = c.args in
     rw (c.unwrap_or.ensures, c.missing.ensures) (found (of_kind a.kind a.p a.s.now) a.to _ c.find.result
-    (find_from_yields_List (of_kind a.kind a.p a.s.now) _ _ c.find.result c.find.ensures.ran (walked _ c.children_of.ensures)
+    (find_from_yields_List (of_kind a.kind a.p a.s.now) _ _ c.find.result c.find.ensures.ran (walked _ c.children_of.ensures.left)
     (λ x b q k. search (rules, tests))))

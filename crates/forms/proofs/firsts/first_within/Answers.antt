@@ -22,7 +22,7 @@ unfolding items_within
 returns c =
     let a = c.args in
     let is = find_from_yields_List (λ h. not (is_empty h)) _ _ c.find.result c.find.ensures.ran
-    (YieldsList-from_map _ (first_held a.nest (of_kind a.kind a.p a.s.now) a.s.now) (YieldsList-at c.map.ensures.source (walked _ c.children_of.ensures))
+    (YieldsList-from_map _ (first_held a.nest (of_kind a.kind a.p a.s.now) a.s.now) (YieldsList-at c.map.ensures.source (walked _ c.children_of.ensures.left))
     c.map.ensures.closure (λ x r q k. search rules)) (λ x b q k. search (rules, tests)) in
     rw (c.unwrap_or.ensures, c.missing.ensures)
     (ap (λ (o : Option Head). unwrap_or o (missing a.to)) (sym (option_map_id c.find.result) ∙ is) ∙ within_first a.nest (of_kind a.kind a.p a.s.now) a.s.now a.to _)

@@ -14,7 +14,7 @@ use Rattle.hosts.proofs.named.some_same.Goals as goal
 pub names-init : goal.names-init
 names-init c =
     let a = c.args in
-    let all = ap children_left c.into_iter-name-iterator.ensures.into_iter_gives ∙ c.children_of-name-items.ensures in
+    let all = ap children_left c.into_iter-name-iterator.ensures.into_iter_gives ∙ c.children_of-name-items.ensures.left in
     (refl, ap (some_named a.s.now (octets_from a.s.now a.a a.n)) (sym all))
 
 pub names-preserved-then-not-name-minus : goal.names-preserved-then-not-name-minus

@@ -8,4 +8,4 @@ use Rattle.locations.proofs.points.restricted.Goals as goal
 
 pub returns : goal.returns
 returns c =
-    any_from_yields_List is_restriction _ _ _ c.any.ensures.ran (walked _ c.members_in.ensures) (λ x b q k. search (rules, tests)) ∙ any_is is_restriction _
+    any_from_yields_List is_restriction _ _ _ c.any.ensures.ran (walked _ c.members_in.ensures.left) (λ x b q k. search (rules, tests)) ∙ any_is is_restriction _

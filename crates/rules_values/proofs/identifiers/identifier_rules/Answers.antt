@@ -14,7 +14,7 @@ returns c =
     let a = c.args in
     let s = a.s.now in
     let key = (known a.issuer.now a.i).key in
-    let held-put = rw c.is_held_by-held.ensures at c.judge_value.ensures in
+    let held-put = rw (c.is_held_by-held.ensures, c.ok.ensures.value) at c.judge_value.ensures in
     let Filled-put = rw c.is_filled-filled.ensures at c.judge_value-2.ensures in
     let twenty-put = rw c.is_twenty-twenty.ensures at c.judge_value-3.ensures in
     by_standing a.p a.authority (λ e. 401 for every_profile ⦂ rule401 s key e ∷ []) (λ t. rw t at held-put) (λ t. rw t at held-put) (λ t. rw t at held-put)

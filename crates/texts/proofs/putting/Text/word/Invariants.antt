@@ -1,7 +1,7 @@
--- `texts::putting::Text::word` meets its contract. The invariant: so far the octets before this one are put. Assumes nothing.
+-- `texts::putting::Text::word` meets its contract. The invariant: so far the first i octets are put. Assumes nothing.
 use lib.ListN.{take}
 use Rattle.texts.specs.Putting.{Grown}
 use Rattle.texts.proofs.putting.Text.word.Given as goal
 
-abbrev pub invariant-loop-b : goal.invariant-loop-b
-invariant-loop-b l = Grown (take l.b-index l.text) l.initial.self l.self
+abbrev pub invariant-loop-i : goal.invariant-loop-i
+invariant-loop-i l = Grown (take l.i l.text) l.initial.self l.self

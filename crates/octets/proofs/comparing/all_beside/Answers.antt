@@ -1,11 +1,11 @@
--- `octets::all_beside` meets its contract. Assumes nothing.
+-- `octets::comparing::all_beside` meets its contract. Assumes nothing.
 use Rattle.std.proofs.Common.{◌≡◌, ◌+◌, refl, arith, rules, tests}
 use Rattle.std.specs.List.{list_all, range_with_len}
 use Rattle.std.proofs.lemmas.Iterator.{YieldsList-from_range}
 use Rattle.std.proofs.lemmas.Iterator.Search.{all_from_yields_List}
 use Rattle.octets.specs.Octets.{octet_at}
 use Rattle.octets.proofs.Laws.Stretches.{beside_stretch}
-use Rattle.octets.proofs.stretches.all_beside.Goals as goal
+use Rattle.octets.proofs.comparing.all_beside.Goals as goal
 
 pub returns : goal.returns
 returns g c = λ passes computes.
