@@ -10,7 +10,7 @@ use comparison::lines::is_finding;
 
 /// Texts in backquotes that no rule below takes, each with the reason why it may stand there.
 const EXCEPTIONS: &[(&str, &[&str])] = &[
-    ("words of the language and of its kit", &["result ≡ definition (inputs)", "s.now", "From", "Option", "b.is_ascii_digit()"]),
+    ("words of the language and of its kit", &["result ≡ definition (inputs)", "s.now", "From", "b.is_ascii_digit()"]),
     (
         "what `rt version` and the gate print",
         &["rattle-kit-13f logic dac8208d650f15bf", "N passed, 0 failed"],
